@@ -71,6 +71,8 @@ impl Decimal128 {
         self.bytes
     }
 
+    /// What the 16 bytes encode, the lowest first (IEEE 754-2008, 3.5.2): a NaN, an infinity, or a sign, a coefficient
+    /// and an exponent. A coefficient of more than 34 digits counts as 0.
     fn parts(&self) -> Parts
         ensures { decimal_of_parts result ≡ unpack (number_of (decimal_bytes self.now)) }
     {

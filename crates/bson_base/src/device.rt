@@ -100,6 +100,7 @@ impl VecSink {
 impl Sink for VecSink {
     ghost tally = { λ s. record { failures = s.failed; taken = Some s.bytes.items } };
 
+    /// Takes all of `buf` in one call, or nothing if the vector can't grow.
     fn write(&mut self, buf: &[u8]) -> Result<usize, DeviceFault> {
         match self.bytes.extend_from_slice(buf) {
             Ok(()) => Ok(buf.len()),

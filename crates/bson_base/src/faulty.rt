@@ -40,6 +40,7 @@ impl<'a> FaultySource<'a> {
 impl Source for FaultySource<'_> {
     ghost feed = { λ s. record { failures = s.failed; supply = record { given = Some (take s.at s.bytes.now); left = Some (drop s.at s.bytes.now) } } };
 
+    /// Gives one byte. A call that succeeds without one, at the end or without room, uses up a call too.
     fn read(&mut self, buf: &mut [u8]) -> Result<usize, DeviceFault> {
         if self.calls == 0 {
             self.failed += 1;
@@ -84,6 +85,7 @@ impl FaultySink {
 impl Sink for FaultySink {
     ghost tally = { λ s. record { failures = s.failed; taken = Some s.bytes.items } };
 
+    /// Takes one byte. Also fails if the vector can't grow.
     fn write(&mut self, buf: &[u8]) -> Result<usize, DeviceFault> {
         if buf.is_empty() {
             return Ok(0);
@@ -125,6 +127,7 @@ impl Interrupted<'_> {
 impl io::Read for Interrupted<'_> {
     ghost remaining = { λ s. Some s.bytes.now };
 
+    /// Gives one byte. The call that is interrupted gives none and returns an error of the kind `Interrupted`.
     fn read(&mut self, buf: &mut [u8]) -> io::Result<usize> {
         if self.interrupts() {
             return Err(io::Error::from(io::ErrorKind::Interrupted));
@@ -145,6 +148,7 @@ pub struct Full;
 impl io::Write for Full {
     ghost contents = { λ _. Some [] };
 
+    /// Returns 0 and no error for any bytes, as a writer without room does.
     fn write(&mut self, _buf: &[u8]) -> io::Result<usize> {
         Ok(0)
     }

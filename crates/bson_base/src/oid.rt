@@ -122,12 +122,14 @@ impl ObjectId {
     }
 }
 
+/// Whether an ASCII byte is one of `0` to `9`, `a` to `f` and `A` to `F`.
 fn is_hex_digit(c: u8) -> bool
     ensures { result ≡ hex_digit c }
 {
     c.is_ascii_hexdigit()
 }
 
+/// Where the first byte that is no hexadecimal digit is, counted in bytes from 0, or None if all are digits.
 fn first_other(text: &str) -> Option<usize>
     ensures { result ≡ first_other_of text.now }
 {
@@ -151,11 +153,14 @@ impl FromStr for ObjectId {
 
     ghost from_str_gives = { λ text answer. result_map id_bytes answer ≡ object_id_of text };
 
+    /// Reads what `parse_str` reads, with the same errors.
     fn from_str(text: &str) -> Result<ObjectId> {
         ObjectId::parse_str(text)
     }
 }
 
+/// Writes the 24 hexadecimal digits in lower case, whatever width, fill or precision the formatter has. The error is
+/// that of the formatter's writer.
 fn write_hex<W: fmt::Write>(f: &mut fmt::Formatter<W>, bytes: &[u8; 12]) -> fmt::Result
     ensures plain { WritesOnOk W.write_str_gives f.old result (encode_lower bytes.now) f.new }
     ensures styled { WritesStyledOnOk W.write_str_gives f.old result (encode_lower bytes.now) f.new }
@@ -177,6 +182,7 @@ impl fmt::Display for ObjectId {
 
     ghost styled_output = { λ id s. Some (encode_lower (id_bytes id)) };
 
+    /// Prints the 24 hexadecimal digits in lower case, whatever options the formatter has.
     fn fmt<W: fmt::Write>(&self, f: &mut fmt::Formatter<W>) -> fmt::Result {
         write_hex(f, &self.id)
     }
@@ -187,6 +193,7 @@ impl fmt::Debug for ObjectId {
 
     ghost debug_output = { λ id. Some (debug_text (id_bytes id)) };
 
+    /// Prints `ObjectId("...")` with the 24 hexadecimal digits in lower case between the quotes.
     fn fmt<W: fmt::Write>(&self, f: &mut fmt::Formatter<W>) -> fmt::Result {
         write!(f, "ObjectId(\"{self}\")")
     }

@@ -60,12 +60,14 @@ fn in_order(alloc: Global, text: &str) -> Result<String, AllocError>
     text_of(alloc, characters)
 }
 
+/// The characters of a text, in its order. The error is a refused growth.
 fn characters_of(alloc: Global, text: &str) -> Result<Vec<char>, AllocError>
     ensures { IfOk result (λ v. v.items ≡ chars text.now) }
 {
     text.chars().collect(alloc)
 }
 
+/// The text of characters in the order given, in UTF-8. The error is a refused growth.
 fn text_of(alloc: Global, characters: Vec<char>) -> Result<String, AllocError>
     ensures { IfOk result (λ t. string_bytes t ≡ encode_utf8_all characters.items) }
 {

@@ -59,6 +59,7 @@ impl From<AllocError> for Error {
 
     ghost from_gives = { λ _ e. IsBare OutOfMemory e };
 
+    /// `OutOfMemory`, under no key.
     fn from(_e: AllocError) -> Error {
         Error::new(None, ErrorKind::OutOfMemory)
     }
@@ -69,12 +70,14 @@ impl<T: Drop> From<AllocFailed<T>> for Error {
 
     ghost from_gives = { λ _ e. IsBare OutOfMemory e };
 
+    /// `OutOfMemory`, under no key.
     fn from(_e: AllocFailed<T>) -> Error {
         Error::new(None, ErrorKind::OutOfMemory)
     }
 }
 
 impl fmt::Display for Error {
+    /// The kind in words, and the key in quotes with escapes if there is one: `malformed value under the key "a"`.
     fn fmt<W: fmt::Write>(&self, f: &mut fmt::Formatter<W>) -> fmt::Result {
         match &self.key {
             Some(key) => write!(f, "{} under the key {key:?}", self.kind),
@@ -129,6 +132,8 @@ impl ValueAccessError {
 }
 
 impl fmt::Display for ValueAccessErrorKind {
+    /// The kind in words, without the key that was asked for. For `InvalidBson` the fault follows, with its own key if
+    /// it has one.
     fn fmt<W: fmt::Write>(&self, f: &mut fmt::Formatter<W>) -> fmt::Result {
         match self {
             ValueAccessErrorKind::NotPresent => write!(f, "no value"),
@@ -142,6 +147,8 @@ impl fmt::Display for ValueAccessErrorKind {
 impl std::error::Error for ValueAccessErrorKind {}
 
 impl fmt::Display for ValueAccessError {
+    /// The kind in words, and the key in quotes with escapes. For `InvalidBson` the fault follows; `OutOfMemory` is
+    /// printed without the key.
     fn fmt<W: fmt::Write>(&self, f: &mut fmt::Formatter<W>) -> fmt::Result {
         let key = &self.key;
         match &self.kind {

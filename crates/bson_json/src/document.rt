@@ -25,6 +25,9 @@ use bson_raw::{RawArray, RawBsonRef, RawDocument, RawJavaScriptCodeWithScopeRef}
 use json::Writer;
 use std::alloc::Global;
 
+/// A value with all that is inside. `inner` levels may be nested, the value among them if it is a level itself.
+/// `Unseen` if there are more, if the bytes have a fault, or if a document that is no scope has a reserved key.
+/// `Memory` if a growth was refused.
 #[cycle(print)]
 fn print_value(
     alloc: Global,
@@ -137,6 +140,7 @@ fn print_in_turn(
     Ok(())
 }
 
+/// An array, its items in their order. `inner` levels may be nested, this one among them. `Unseen` as in `print_value`.
 #[cycle(print)]
 fn print_items(
     alloc: Global,
@@ -171,6 +175,8 @@ fn print_items(
     Ok(())
 }
 
+/// A code and its scope, under `$code` and then `$scope`. The scope's own keys may be reserved ones. `inner` levels may
+/// be nested, the scope among them. `Unseen` as in `print_value`.
 #[cycle(print)]
 fn print_scoped(
     alloc: Global,

@@ -16,6 +16,7 @@ use bson_model::{Bson, Document, JavaScriptCodeWithScope};
 use json::Writer;
 use std::alloc::{AllocError, Global};
 
+/// A value with all that is inside, in Extended JSON. The error is a refused growth.
 #[cycle(print)]
 fn print_value(alloc: Global, value: &Bson, mode: Mode, out: &mut Writer) -> Result<(), AllocError>
     ensures { PrintsForm mode (view value.now) result out.old out.new }
@@ -47,6 +48,7 @@ fn print_value(alloc: Global, value: &Bson, mode: Mode, out: &mut Writer) -> Res
     }
 }
 
+/// An array, its items in their order.
 #[cycle(print)]
 fn print_items(
     alloc: Global,
@@ -81,6 +83,7 @@ fn print_members(
     out.end_object()
 }
 
+/// A code and its scope: an object of `$code` and then `$scope` (MongoDB Extended JSON v2, "Conversion table").
 #[cycle(print)]
 fn print_scoped(
     alloc: Global,

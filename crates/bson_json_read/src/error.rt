@@ -60,6 +60,7 @@ impl From<oid::Error> for Error {
 
     ghost from_gives = { λ x e. e ≡ of_object_id x };
 
+    /// `Memory` stays `Memory`; every other error goes into `InvalidObjectId`.
     fn from(error: oid::Error) -> Error {
         match error {
             oid::Error::Memory => Error::Memory,

@@ -15,6 +15,7 @@ use bson_model::{Bson, Document, STACK_LEVELS, levels_inside};
 use json::{MAX_DEPTH, Reader, Scratch, Value};
 use std::alloc::Global;
 
+/// Whether one of the keys is reserved, so that the object stands for a typed value and not for a document.
 fn has_reserved(members: &[(&str, Value<'_>)]) -> bool
     ensures { result ≡ any_reserved (members_view members.now) }
 {
@@ -63,6 +64,7 @@ fn read(alloc: Global, value: &Value<'_>, levels: u32) -> Result<Bson>
     }
 }
 
+/// The items of an array, in their order. Each may have `levels` levels; `Memory` if one has more.
 #[cycle(read)]
 fn read_items(alloc: Global, items: &[Value<'_>], levels: u32) -> Result<Vec<Bson>>
     ensures { GivesReading (λ v. items_of (map view v.items)) result (items_read (items_view items.now)) }
@@ -74,6 +76,8 @@ fn read_items(alloc: Global, items: &[Value<'_>], levels: u32) -> Result<Vec<Bso
     Ok(values)
 }
 
+/// The document of an object whose own keys are never taken for reserved ones. Each value may have `levels` levels.
+/// `RepeatedKey` if a key comes twice, `Memory` if there are more levels.
 #[cycle(read)]
 fn read_members(alloc: Global, members: &[(&str, Value<'_>)], levels: u32) -> Result<Document>
     ensures { GivesReading (λ d. content d) result (members_read (members_view members.now) no_members) }
@@ -118,6 +122,8 @@ fn read_typed(alloc: Global, members: &[(&str, Value<'_>)], levels: u32) -> Resu
     }
 }
 
+/// The scope of a code, whose own keys are never taken for reserved ones. None of `null`: the code then has no scope.
+/// `NotExtendedJson` if it is no object either. The object around the scope counts as one of the `levels`.
 #[cycle(read)]
 fn read_scope(alloc: Global, scope: &Value<'_>, levels: u32) -> Result<Option<Document>>
     ensures { GivesReading (λ o. option_map (λ d. content d) o) result (scope_of (data_of scope.now)) }

@@ -37,6 +37,7 @@ pub fn same_meaning(value: &Bson, other: &Bson) -> bool
     }
 }
 
+/// Whether there are as many items as others, and each means the same as the one at its place.
 #[cycle(same)]
 fn same_items(items: &[Bson], others: &[Bson]) -> bool
     ensures { IsTrue result ↔ SameItems (items_of (map view items.now)) (items_of (map view others.now)) }
@@ -75,6 +76,8 @@ fn same_documents(document: &Document, other: &Document) -> bool
     others.next().is_none()
 }
 
+/// Whether a value that is no array, document or code with scope means the same as another. Values of different kinds
+/// never do, not even an int32 and an int64 of one number.
 fn same_scalar(value: &Bson, other: &Bson) -> bool
     requires { IsScalar (view value.now) }
     ensures { IsTrue result ↔ Same (view value.now) (view other.now) }
@@ -105,12 +108,14 @@ fn same_scalar(value: &Bson, other: &Bson) -> bool
     }
 }
 
+/// Whether the patterns are equal, and the options too, whatever their order.
 fn same_regex(regex: &Regex, other: &Regex) -> bool
     ensures { IsTrue result ↔ Same (regex_tree regex.now) (regex_tree other.now) }
 {
     regex.pattern == other.pattern && same_options(regex.options.as_str(), other.options.as_str())
 }
 
+/// Whether the bytes are equal, and the subtypes have the same byte: `Reserved(2)` counts as `BinaryOld`.
 fn same_binary(binary: &Binary, other: &Binary) -> bool
     ensures { IsTrue result ↔ Same (binary_tree binary.now) (binary_tree other.now) }
 {

@@ -26,6 +26,7 @@ pub fn soundness_of_document(document: &Document)
     ranged_members(document);
 }
 
+/// Each number in a value fits the width of its kind, and each key and text is UTF-8. It goes through the whole value.
 #[cycle(ranged)]
 fn ranged_value(value: &Bson)
     ensures { EachPart IsUtf8 IsRangedScalar (view value.now) }
@@ -41,6 +42,7 @@ fn ranged_value(value: &Bson)
     }
 }
 
+/// What `ranged_value` says holds for each item of an array.
 #[cycle(ranged)]
 fn ranged_items(items: &[Bson])
     ensures { EachItem IsUtf8 IsRangedScalar (items_of (map view items.now)) }
@@ -50,6 +52,7 @@ fn ranged_items(items: &[Bson])
     }
 }
 
+/// The keys of a document are UTF-8, and what `ranged_value` says holds for each of its values.
 #[cycle(ranged)]
 fn ranged_members(document: &Document)
     ensures { EachMember IsUtf8 IsRangedScalar (content document.now) }
@@ -60,6 +63,7 @@ fn ranged_members(document: &Document)
     }
 }
 
+/// What `ranged_value` says holds for a value that is no array, document or code with scope.
 pub(crate) fn ranged_scalar(value: &Bson)
     requires { IsScalar (view value.now) }
     ensures { EachPart IsUtf8 IsRangedScalar (view value.now) }
@@ -92,48 +96,56 @@ pub(crate) fn ranged_scalar(value: &Bson)
     }
 }
 
+/// A text is UTF-8. It does nothing when it runs.
 pub(crate) fn is_utf8(text: &str)
     ensures { IsUtf8 text.now }
 {
     let _ = text;
 }
 
+/// A 64-bit unsigned number is under 2⁶⁴.
 fn fits_64_bits(bits: u64)
     ensures { bits < 2 ^ 64 }
 {
     let _ = bits;
 }
 
+/// A 32-bit unsigned number is under 2³².
 fn fits_32_bits(number: u32)
     ensures { number < 2 ^ 32 }
 {
     let _ = number;
 }
 
+/// A byte is under 256.
 fn fits_8_bits(byte: u8)
     ensures { byte < 256 }
 {
     let _ = byte;
 }
 
+/// A 32-bit signed number is at least -2³¹ and under 2³¹.
 fn fits_signed_32_bits(number: i32)
     ensures { FitsSigned w32 number }
 {
     let _ = number;
 }
 
+/// A 64-bit signed number is at least -2⁶³ and under 2⁶³.
 fn fits_signed_64_bits(number: i64)
     ensures { FitsSigned w64 number }
 {
     let _ = number;
 }
 
+/// Each number of a slice of bytes is under 256.
 fn are_bytes(bytes: &[u8])
     ensures { AreBytes bytes.now }
 {
     let _ = bytes;
 }
 
+/// The bytes of an object id are 12, each under 256.
 fn are_12_bytes(id: [u8; 12])
     ensures length { length id ≡ 12 }
     ensures bytes { AreBytes id }
@@ -141,6 +153,7 @@ fn are_12_bytes(id: [u8; 12])
     are_bytes(&id);
 }
 
+/// The bytes of a decimal are 16, each under 256.
 fn are_16_bytes(decimal: [u8; 16])
     ensures length { length decimal ≡ 16 }
     ensures bytes { AreBytes decimal }

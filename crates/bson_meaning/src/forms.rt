@@ -38,6 +38,7 @@ pub fn normalize(alloc: Global, value: Bson) -> Result<Bson, AllocError>
     }
 }
 
+/// The normal forms of the items, in their order. The error is a refused growth; the items are dropped then.
 #[cycle(normal)]
 fn normal_items(alloc: Global, items: Vec<Bson>) -> Result<Vec<Bson>, AllocError>
     ensures normal { IfOk result (λ v. items_of (map view v.items) ≡ norm_items (items_of (map view items.items))) }
@@ -62,6 +63,8 @@ pub fn normalize_document(alloc: Global, document: Document) -> Result<Document,
     Document::from_pairs(alloc, pairs)
 }
 
+/// The keys of a document in their order, each with the normal form of its value. The error is a refused growth; the
+/// document is dropped then.
 #[cycle(normal)]
 fn normal_pairs(alloc: Global, document: Document) -> Result<Vec<(String, Bson)>, AllocError>
     ensures normal { IfOk result (λ v. map owned_member v.items ≡ map normal_pair (pairs_of document)) }
@@ -77,6 +80,9 @@ fn normal_pairs(alloc: Global, document: Document) -> Result<Vec<(String, Bson)>
     Ok(pairs)
 }
 
+/// The normal form of a value that is no array, document or code with scope; only that of a double, a regular
+/// expression, a binary or a decimal can differ from the value. The error is a refused growth; the value is dropped
+/// then.
 fn normal_scalar(alloc: Global, value: Bson) -> Result<Bson, AllocError>
     requires { IsScalar (view value) }
     ensures { IfOk result (λ v. view v ≡ norm (view value)) }

@@ -43,6 +43,9 @@ pub fn gate(bytes: &[u8]) -> Result<(), GateError>
     test_elements(elements, LEVEL_LIMIT - 1)
 }
 
+/// Tests the declared length, in the first four bytes, little endian (BSON specification 1.1, "document"). `BadLength`
+/// if it is under 5 or over 16777216, or if there are more bytes than declared; `EndInside` if there are fewer than
+/// declared, or fewer than four.
 fn test_length(bytes: &[u8]) -> Result<(), GateError>
     ensures { MatchResult result (λ _. IsCounted bytes.now) (IsRefused bytes.now) }
 {
@@ -78,6 +81,8 @@ fn test_elements(elements: &[u8], inner: usize) -> Result<(), GateError>
     Ok(())
 }
 
+/// Tests a payload, and the document, array or scope in it if there is one. `inner` is how many levels may be nested in
+/// each other from there on. `Faulty` for a fault at any level, `TooDeep` for a level too many, whichever is met first.
 #[cycle(elements)]
 fn test_payload(frame: &Frame<'_>, inner: usize) -> Result<(), GateError>
     requires { IsPayload frame.now.tag frame.now.payload.now }

@@ -36,6 +36,8 @@ pub(crate) fn normal_length_of_element(name: &str, value: &Bson) -> usize
         .saturating_add(7)
 }
 
+/// How many bytes the payload of a value's normal form takes, without the byte of its kind and the key before it;
+/// `usize::MAX` if it takes more. As it goes through the whole value, it shows that the value is sound.
 #[cycle(lengths)]
 fn length_of_value(value: &Bson) -> usize
     ensures length { result ≡ min (value_size (norm (view value.now))) (2 ^ 64 - 1) }
@@ -58,6 +60,8 @@ fn length_of_value(value: &Bson) -> usize
     }
 }
 
+/// How many bytes the elements of the normal form take, without the four bytes of length before them and the 00 after
+/// them; `usize::MAX` if they take more. As it goes through the whole document, it shows that the document is sound.
 #[cycle(lengths)]
 fn length_of_members(document: &Document) -> usize
     ensures length { result ≡ min (members_size (norm_members (content document.now))) (2 ^ 64 - 1) }
@@ -93,12 +97,15 @@ fn length_of_items(items: &[Bson]) -> usize
     length
 }
 
+/// How many bytes the key of an item of an array has: its place in decimal, without the 00 after it.
 fn length_of_place(place: usize) -> usize
     ensures { result ≡ length (decimal place) }
 {
     Buffer::new().format(place).len()
 }
 
+/// How many bytes the payload of the normal form takes, for a value that is no array, document or code with scope: 0
+/// for the kinds that have one value only (BSON specification 1.1, "element"); `usize::MAX` if it takes more.
 fn length_of_scalar(value: &Bson) -> usize
     requires { IsScalar (view value.now) }
     ensures { result ≡ min (value_size (norm (view value.now))) (2 ^ 64 - 1) }

@@ -27,6 +27,7 @@ pub fn depth_of_document(document: &Document) -> usize
     depth_of_members(document).saturating_add(1)
 }
 
+/// The greatest `depth` of the items, the array around them not counted; 0 if there are none.
 #[cycle(depth)]
 fn depth_of_items(items: &[Bson]) -> usize
     ensures { result ≡ min (items_levels (items_of (map view items.now))) (2 ^ 64 - 1) }
@@ -38,6 +39,7 @@ fn depth_of_items(items: &[Bson]) -> usize
     greatest
 }
 
+/// The greatest `depth` of the values in a document, the document itself not counted; 0 if there are none.
 #[cycle(depth)]
 fn depth_of_members(document: &Document) -> usize
     ensures { result ≡ min (members_levels (content document.now)) (2 ^ 64 - 1) }

@@ -30,6 +30,7 @@ fn has_counts_of(text: &str, other: &str) -> bool
     true
 }
 
+/// How often a character occurs in a text.
 fn count_of(character: char, text: &str) -> usize
     ensures { result ≡ count character (chars text.now) }
 {

@@ -40,6 +40,7 @@ pub(crate) fn is_plain_element(name: &str, value: &Bson) -> bool
     has_no_zero(name.as_bytes()) && is_plain(value)
 }
 
+/// Whether no key, no pattern and no options inside the items hold a byte 00.
 #[cycle(plain)]
 fn are_plain(items: &[Bson]) -> bool
     ensures { IsTrue result ↔ EachItem HasNo00 IsPlainScalar (items_of (map view items.now)) }
@@ -52,6 +53,7 @@ fn are_plain(items: &[Bson]) -> bool
     true
 }
 
+/// Whether none of a document's keys, and no key, pattern or options inside its values, hold a byte 00.
 #[cycle(plain)]
 pub(crate) fn has_plain_members(document: &Document) -> bool
     ensures { IsTrue result ↔ EachMember HasNo00 IsPlainScalar (content document.now) }

@@ -34,6 +34,7 @@ fn has_reserved_inside(value: &Bson) -> bool
     }
 }
 
+/// Whether `has_reserved_inside` is true of one of the items.
 #[cycle(reserved)]
 fn have_reserved_inside(items: &[Bson]) -> bool
     ensures { result ≡ reserved_in_items (items_of (map view items.now)) }
@@ -72,6 +73,7 @@ fn reserved_key_of(document: &Document) -> Option<&str>
     None
 }
 
+/// A path with one step more before it, and a dot between the two. The error is a refused growth.
 fn join(alloc: Global, step: &str, path: &str) -> Result<String, AllocError>
     ensures { IfOk result (λ t. string_bytes t ≡ step.now ++ codes "." ++ path.now) }
 {
@@ -94,6 +96,8 @@ fn path_inside(alloc: Global, value: &Bson) -> Result<Option<String>, AllocError
     }
 }
 
+/// What `path_inside` finds in the first item that has a reserved key, after the item's place, counted from 0 in
+/// decimal; None if no item has one. The error is a refused growth.
 #[cycle(path)]
 fn path_in_items(alloc: Global, items: &[Bson]) -> Result<Option<String>, AllocError>
     ensures { IfOk result (λ o. option_map (λ t. string_bytes t) o ≡ reserved_path_in_items 0 (items_of (map view items.now))) }
@@ -107,6 +111,8 @@ fn path_in_items(alloc: Global, items: &[Bson]) -> Result<Option<String>, AllocE
     Ok(None)
 }
 
+/// What `path_inside` finds in the first value of a document that has a reserved key, after the key of that value; None
+/// if no value has one. The document's own keys are free. The error is a refused growth.
 #[cycle(path)]
 fn path_below(alloc: Global, document: &Document) -> Result<Option<String>, AllocError>
     ensures { IfOk result (λ o. option_map (λ t. string_bytes t) o ≡ path_of_members (content document.now)) }

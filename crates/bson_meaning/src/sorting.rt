@@ -54,6 +54,7 @@ pub fn sort_keys(alloc: Global, value: Bson) -> Result<Bson, AllocError>
     }
 }
 
+/// The items in their order, the keys inside them ascending. The error is a refused growth; the items are dropped then.
 #[cycle(sorted)]
 fn sorted_items(alloc: Global, items: Vec<Bson>) -> Result<Vec<Bson>, AllocError>
     ensures { IfOk result (λ v. items_of (map view v.items) ≡ asc_items (items_of (map view items.items))) }
@@ -65,6 +66,7 @@ fn sorted_items(alloc: Global, items: Vec<Bson>) -> Result<Vec<Bson>, AllocError
     Ok(sorted)
 }
 
+/// Puts the pairs in the order of their keys, ascending by their bytes. Pairs of equal keys may end up in any order.
 fn sort_by_keys(pairs: &mut Vec<(String, Bson)>)
     ensures permutation { IsPermutation pairs.old.items pairs.new.items }
     ensures sorted { IsSortedByKey (λ p. string_bytes p.0) (slice_cmp nat_cmp) pairs.new.items }

@@ -41,6 +41,8 @@ pub fn same_as_raw(raw: RawBsonRef<'_>, value: &Bson) -> bool
     }
 }
 
+/// Whether the document of a view has the same keys as a tree, in any order, and under each a value that means the
+/// same. For a view with a fault or with a key twice at any level, the result means nothing.
 #[cycle(views)]
 fn same_members(raw: RawDocument<'_>, document: &Document) -> bool
     ensures { (ms : Members) → SpellsMembers (drop 4 (bytes_of raw.entry)) ms → MembersHaveDistinctKeys ms
@@ -66,6 +68,9 @@ fn same_members(raw: RawDocument<'_>, document: &Document) -> bool
     left == 0
 }
 
+/// Whether an array of a view has as many values as there are items, and each means the same as the item at its place;
+/// the keys of its elements aren't compared. For a view with a fault or with a key twice at any level, the result means
+/// nothing.
 #[cycle(views)]
 fn same_elements(raw: RawArray<'_>, items: &[Bson]) -> bool
     ensures { (vs : Items) → SpellsItems (drop 4 (array_bytes raw.entry)) vs → ItemsHaveDistinctKeys vs
@@ -90,6 +95,8 @@ fn same_elements(raw: RawArray<'_>, items: &[Bson]) -> bool
     left.is_empty()
 }
 
+/// Whether an element's value means the same as a value, as `same_as_raw` says; false if the payload is faulty. The key
+/// isn't compared.
 #[cycle(views)]
 fn same_element(element: &RawElement<'_>, value: &Bson) -> bool
     ensures { ComparesPayload (parts_of element.now) (view value.now) result }
@@ -113,6 +120,8 @@ fn value_under<'a>(document: &'a Document, key: &str) -> Option<&'a Bson>
     }
 }
 
+/// As `same_as_raw`, for a view that is no array, document or code with scope. Values of different kinds never mean the
+/// same, not even an int32 and an int64 of one number.
 fn same_scalar_view(raw: RawBsonRef<'_>, value: &Bson) -> bool
     requires { ShowsScalar raw }
     ensures { IsTrue result ↔ Same (scalar (view_scalar raw.entry)) (view value.now) }
@@ -145,6 +154,8 @@ fn same_scalar_view(raw: RawBsonRef<'_>, value: &Bson) -> bool
     }
 }
 
+/// As `same_scalar_view`, for the kinds that have no normal form but themselves: texts, pointers, and those of
+/// `same_number_view`.
 fn same_text_view(raw: RawBsonRef<'_>, value: &Bson) -> bool
     requires { ShowsFixed raw }
     ensures { IsTrue result ↔ Same (scalar (view_scalar raw.entry)) (view value.now) }
@@ -170,6 +181,8 @@ fn same_text_view(raw: RawBsonRef<'_>, value: &Bson) -> bool
     }
 }
 
+/// As `same_scalar_view`, for booleans, integers, times, object ids, and the kinds that have one value only. False for
+/// a view of any other kind.
 fn same_number_view(raw: RawBsonRef<'_>, value: &Bson) -> bool
     requires { ShowsNumber raw }
     ensures { IsTrue result ↔ Same (scalar (view_scalar raw.entry)) (view value.now) }

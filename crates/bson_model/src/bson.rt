@@ -354,6 +354,7 @@ impl Bson {
     ghost use Rattle.bson_model.specs.Rows.{double_row, decimal128_row, timestamp_row};
     ghost use Rattle.bson_model.specs.Lending.{LendsGeneric};
 
+    /// The 64 bits of a double's IEEE 754 pattern, to be written to; None if the value isn't a Double.
     pub(crate) fn as_f64_mut(&mut self) -> Option<&mut DoubleBits>
         ensures* writes_back { sem 𝓛 (LendsIf the_row double_row self.entry result bson.Double self.old) }
         ensures value { option_map (λ d. d.now.0) result ≡ kinds.as_f64 (view self.old) }
@@ -365,6 +366,7 @@ impl Bson {
         }
     }
 
+    /// The 16 bytes of a decimal number, to be written to; None if the value isn't a Decimal128.
     pub(crate) fn as_decimal128_mut(&mut self) -> Option<&mut Decimal128>
         ensures* writes_back { sem 𝓛 (LendsIf the_row decimal128_row self.entry result bson.Decimal128 self.old) }
         ensures value { option_map (λ d. decimal_bytes d.now) result ≡ kinds.as_decimal128 (view self.old) }
@@ -376,6 +378,7 @@ impl Bson {
         }
     }
 
+    /// The truth value, to be written to; None if the value isn't a Boolean: no other kind counts as true or false.
     pub(crate) fn as_bool_mut(&mut self) -> Option<&mut bool>
         ensures* writes_back { sem 𝓛 (LendsIf the_row truth_row self.entry result bson.Boolean self.old) }
         ensures value { option_map (λ b. b.now) result ≡ kinds.as_bool (view self.old) }
@@ -387,6 +390,7 @@ impl Bson {
         }
     }
 
+    /// The signed number of 32 bits, to be written to; None if the value isn't an Int32: an Int64 isn't narrowed.
     pub(crate) fn as_i32_mut(&mut self) -> Option<&mut i32>
         ensures* writes_back { sem 𝓛 (LendsIf the_row i32_row self.entry result bson.Int32 self.old) }
         ensures value { option_map (λ z. z.now) result ≡ kinds.as_i32 (view self.old) }
@@ -398,6 +402,7 @@ impl Bson {
         }
     }
 
+    /// The signed number of 64 bits, to be written to; None if the value isn't an Int64: an Int32 isn't widened.
     pub(crate) fn as_i64_mut(&mut self) -> Option<&mut i64>
         ensures* writes_back { sem 𝓛 (LendsIf the_row i64_row self.entry result bson.Int64 self.old) }
         ensures value { option_map (λ z. z.now) result ≡ kinds.as_i64 (view self.old) }
@@ -409,6 +414,8 @@ impl Bson {
         }
     }
 
+    /// The seconds since 1970 and the increment, 32 bits each, to be written to; None if the value isn't a Timestamp: a
+    /// DateTime doesn't count as one.
     pub(crate) fn as_timestamp_mut(&mut self) -> Option<&mut Timestamp>
         ensures* writes_back { sem 𝓛 (LendsIf the_row timestamp_row self.entry result bson.Timestamp self.old) }
         ensures value { option_map (λ t. (t.now.time, t.now.increment)) result ≡ kinds.as_timestamp (view self.old) }
@@ -420,6 +427,7 @@ impl Bson {
         }
     }
 
+    /// The bytes with their subtype, whichever it is, to be written to; None if the value isn't a Binary.
     fn as_binary_mut(&mut self) -> Option<&mut Binary>
         ensures* writes_back { sem 𝓛 (LendsIf the_row binary_row self.entry result bson.Binary self.old) }
         ensures value { option_map (λ b. binary_tree b.now) result ≡ kinds.as_binary (view self.old) }
@@ -431,6 +439,8 @@ impl Bson {
         }
     }
 
+    /// The bytes of a binary of subtype Generic (BSON specification, subtype 00), to be written to; None for any other
+    /// subtype or kind.
     pub(crate) fn as_binary_generic_mut(&mut self) -> Option<&mut Vec<u8>>
         ensures* writes_back { sem 𝓛 (LendsGeneric self.entry result) }
         ensures value { option_map (λ b. b.now.items) result ≡ kinds.as_binary_generic (view self.old) }

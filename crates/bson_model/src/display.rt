@@ -76,6 +76,8 @@ impl<'a> fmt::Display for ShownDocument<'a> {
     }
 }
 
+/// The text of a value of any kind, with all that it holds. Texts and symbols are quoted without escapes, and code is
+/// written without its scope.
 #[cycle(show)]
 fn write_value<W: fmt::Write>(f: &mut fmt::Formatter<W>, value: &Bson) -> fmt::Result
     ensures { WritesOnOk W.write_str_gives f.old result (display_text (view value.now)) f.new }
@@ -105,6 +107,7 @@ fn write_value<W: fmt::Write>(f: &mut fmt::Formatter<W>, value: &Bson) -> fmt::R
     }
 }
 
+/// `[a, b]`, or `[]` if there are no items.
 #[cycle(show)]
 fn write_array<W: fmt::Write>(f: &mut fmt::Formatter<W>, items: &[Bson]) -> fmt::Result
     ensures { WritesOnOk W.write_str_gives f.old result (codes "[" ++ shown_items true (items_of (map view items.now)) ++ codes "]") f.new }
@@ -114,6 +117,7 @@ fn write_array<W: fmt::Write>(f: &mut fmt::Formatter<W>, items: &[Bson]) -> fmt:
     f.write_str("]")
 }
 
+/// `a, b`: the items without the brackets, and nothing if there are none.
 #[cycle(show)]
 fn write_items<W: fmt::Write>(f: &mut fmt::Formatter<W>, items: &[Bson]) -> fmt::Result
     ensures { WritesOnOk W.write_str_gives f.old result (shown_items true (items_of (map view items.now))) f.new }
@@ -127,6 +131,7 @@ fn write_items<W: fmt::Write>(f: &mut fmt::Formatter<W>, items: &[Bson]) -> fmt:
     Ok(())
 }
 
+/// `{ "k": v, "l": w }`, in the order of the pairs, or `{}` without a space if there are none.
 #[cycle(show)]
 fn write_braces<W: fmt::Write>(f: &mut fmt::Formatter<W>, document: &Document) -> fmt::Result
     ensures { WritesOnOk W.write_str_gives f.old result (shown_document (content document.now)) f.new }
@@ -139,6 +144,7 @@ fn write_braces<W: fmt::Write>(f: &mut fmt::Formatter<W>, document: &Document) -
     f.write_str(" }")
 }
 
+/// `"k": v, "l": w`: the pairs in their order, without the braces, and nothing if there are none.
 #[cycle(show)]
 fn write_members<W: fmt::Write>(f: &mut fmt::Formatter<W>, document: &Document) -> fmt::Result
     ensures { WritesOnOk W.write_str_gives f.old result (shown_members true (content document.now)) f.new }
@@ -153,18 +159,21 @@ fn write_members<W: fmt::Write>(f: &mut fmt::Formatter<W>, document: &Document) 
     Ok(())
 }
 
+/// What separates a part from the one before it: a comma and a space, or nothing before the first.
 fn write_mark<W: fmt::Write>(f: &mut fmt::Formatter<W>, first: bool) -> fmt::Result
     ensures { WritesOnOk W.write_str_gives f.old result (mark_before first) f.new }
 {
     f.write_str(if first { "" } else { ", " })
 }
 
+/// The key in quotes, a colon and a space. Nothing is escaped, so a quote inside the key is written as it is.
 fn write_key<W: fmt::Write>(f: &mut fmt::Formatter<W>, key: &str) -> fmt::Result
     ensures { WritesOnOk W.write_str_gives f.old result (in_quotes key.now ++ codes ": ") f.new }
 {
     write!(f, "\"{key}\": ")
 }
 
+/// `0x` and the IEEE 754 pattern of 64 bits in 16 lower-case hexadecimal digits, the most significant first.
 fn write_double<W: fmt::Write>(f: &mut fmt::Formatter<W>, double: DoubleBits) -> fmt::Result
     ensures { WritesOnOk W.write_str_gives f.old result (shown_double double.0) f.new }
 {
@@ -178,12 +187,14 @@ fn write_double<W: fmt::Write>(f: &mut fmt::Formatter<W>, double: DoubleBits) ->
     }
 }
 
+/// The date text of RFC 3339 in UTC, or outside the years 0000 to 9999 the milliseconds since 1970 in decimal.
 fn write_date<W: fmt::Write>(f: &mut fmt::Formatter<W>, moment: &DateTime) -> fmt::Result
     ensures { WritesOnOk W.write_str_gives f.old result (shown_date (millis_of moment.now)) f.new }
 {
     fmt::Display::fmt(moment, f)
 }
 
+/// `DateTime("text")`, where the text is that of `write_date`: in quotes even if it is a number of milliseconds.
 fn write_moment<W: fmt::Write>(f: &mut fmt::Formatter<W>, moment: &DateTime) -> fmt::Result
     ensures { WritesOnOk W.write_str_gives f.old result (call_of_text (codes "DateTime") (shown_date (millis_of moment.now))) f.new }
 {
@@ -192,6 +203,7 @@ fn write_moment<W: fmt::Write>(f: &mut fmt::Formatter<W>, moment: &DateTime) -> 
     f.write_str("\")")
 }
 
+/// `DbPointer(namespace, id)`: the namespace without quotes, the id as 24 lower-case hexadecimal digits.
 fn write_pointer<W: fmt::Write>(f: &mut fmt::Formatter<W>, pointer: &DbPointer) -> fmt::Result
     ensures { WritesOnOk W.write_str_gives f.old result (shown_scalar (db_pointer (string_bytes pointer.now.namespace) (id_bytes pointer.now.id))) f.new }
 {

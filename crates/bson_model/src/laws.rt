@@ -24,10 +24,12 @@ pub use grammar::reading_is_the_grammar;
 use std::hash::Hash;
 pub use written::{date_texts, written_values};
 
+/// The law behind every type with `Eq`: its `==` is an equivalence.
 fn equality<T: Eq>()
     ensures { IsEquivalence T.eq }
 {}
 
+/// The law behind every type with `Hash`: values that are equal by `==` are fed alike to a hasher.
 fn hashing<T: Hash>()
     ensures { (x y : T) → IsTrue (T.eq x y) → T.hash_input x ≡ T.hash_input y }
 {}

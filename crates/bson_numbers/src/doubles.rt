@@ -17,6 +17,7 @@ pub fn double_of(whole: i64) -> Option<DoubleBits>
     }
 }
 
+/// The double with these lower 63 bits, and with its sign bit (IEEE 754-2008, 3.4) set if `negative` says so.
 fn with_sign(negative: bool, bits: u64) -> DoubleBits
     requires { bits < 2 ^ 63 }
     ensures { result.0 ≡ (if negative then bits + 2 ^ 63 else bits) }

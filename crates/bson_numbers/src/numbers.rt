@@ -60,6 +60,7 @@ pub fn double(double: DoubleBits) -> Number
     }
 }
 
+/// The size of a double that isn't NaN (IEEE 754-2008, 3.4). The power of two is counted in the least double, 2^-1074.
 fn size_of_double(double: DoubleBits) -> Size
     requires { is_nan double.0 ≡ false }
     ensures size { size_of result ≡ double_size double.0 }
@@ -85,6 +86,8 @@ pub fn decimal(decimal: &Decimal128) -> Number
     number_of_bits(number_of_bytes(&decimal.bytes()))
 }
 
+/// The number of the 128 bits of a decimal (IEEE 754-2008, 3.5.2, binary encoding). A coefficient over 10^34 - 1 counts
+/// as 0.
 #[tactic(auto, unfolding(bson_base::specs::Decimal::unpack))]
 fn number_of_bits(bits: u128) -> Number
     ensures place { place_of result ≡ unpacked_place (unpack bits) }

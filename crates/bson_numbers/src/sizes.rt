@@ -28,6 +28,7 @@ pub enum Size {
 impl Size {
     ghost use Rattle.bson_numbers.specs.Sizes.{size_of};
 
+    /// Whether it is exactly 0, whatever the exponent.
     pub(crate) fn is_zero(self) -> bool
         ensures { IsTrue result ↔ (size_of self ≡ 0) }
     {
@@ -118,6 +119,7 @@ fn lift_tens(c: u128, k: u32, d: u128) -> Ordering
     }
 }
 
+/// Compares `s` times 2^`x` with `t` times 2^`y`, both counted in the least double, 2^-1074.
 fn compare_doubles(s: u128, x: u32, t: u128, y: u32) -> Ordering
     requires first { s < 2 ^ 53 }
     requires second { t < 2 ^ 53 }

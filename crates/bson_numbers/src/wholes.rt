@@ -68,6 +68,7 @@ fn whole_size(size: Size) -> Option<u64>
     }
 }
 
+/// `c` times 10^`e`, counted in the least decimal, 10^-6176, without its fraction. None if 64 bits have no room for it.
 fn whole_tens(c: u128, e: u32) -> Option<u64>
     requires { c < 10 ^ 34 }
     ensures { result ≡ small (c * 10 ^ e / one_whole) }
@@ -79,6 +80,7 @@ fn whole_tens(c: u128, e: u32) -> Option<u64>
     }
 }
 
+/// `s` times 2^`x`, counted in the least double, 2^-1074, without its fraction. None if 64 bits have no room for it.
 fn whole_twos(s: u128, x: u32) -> Option<u64>
     requires { s < 2 ^ 53 }
     ensures { result ≡ small (s * 2 ^ x * least_double / one_whole) }

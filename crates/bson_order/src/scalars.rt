@@ -87,6 +87,7 @@ fn compare_texts(value: RawBsonRef<'_>, other: RawBsonRef<'_>) -> Option<Orderin
     }
 }
 
+/// Part by part, in the order in which `Comparand` has them; the first that differs decides.
 fn compare_parts(value: &Comparand<'_>, other: &Comparand<'_>) -> Ordering
     requires first { IsNumber value.now.number }
     requires second { IsNumber other.now.number }
@@ -136,6 +137,7 @@ fn comparand_of(value: RawBsonRef<'_>) -> Comparand<'_>
     }
 }
 
+/// What is compared by a number alone; the other parts are 0 or empty. A date is the number of its milliseconds.
 fn of_number(number: Number) -> Comparand<'static>
     requires { IsNumber number }
     ensures parts { seen result ≡ record nothing { place = place_of number } }
@@ -151,6 +153,8 @@ fn of_number(number: Number) -> Comparand<'static>
     }
 }
 
+/// What is compared by `major`, then by the bytes of `text`, then by those of `id`; the other parts are the same for
+/// all.
 fn of_text<'a>(major: u64, text: &'a [u8], id: [u8; 12]) -> Comparand<'a>
     ensures parts { seen result ≡ record nothing { major = major; text = text.now; id = id } }
     ensures number { IsNumber result.number }
@@ -165,6 +169,8 @@ fn of_text<'a>(major: u64, text: &'a [u8], id: [u8; 12]) -> Comparand<'a>
     }
 }
 
+/// What is compared by `major`, `minor`, the bytes of `text` and those of `more`, one after the other; the other parts
+/// are the same for all.
 fn of_counts<'a>(major: u64, minor: u64, text: &'a [u8], more: &'a [u8]) -> Comparand<'a>
     ensures parts { seen result ≡ record nothing { major = major; minor = minor; text = text.now; more = more.now } }
     ensures number { IsNumber result.number }

@@ -28,6 +28,7 @@ pub fn compare_trees(value: &Bson, other: &Bson) -> Ordering
     }
 }
 
+/// Compares the ranks of the two kinds, whatever the values hold.
 fn compare_kinds(value: &Bson, other: &Bson) -> Ordering
     ensures { result ≡ nat_cmp (rank_spec (value_kind (view value.now))) (rank_spec (value_kind (view other.now))) }
 {
@@ -112,6 +113,7 @@ fn leaf(value: &Bson) -> RawBsonRef<'_>
     }
 }
 
+/// Item by item, in their order. The list that ends first is less.
 #[cycle(trees)]
 fn compare_lists(items: &[Bson], others: &[Bson]) -> Ordering
     ensures { result ≡ slice_cmp nat_cmp (items_inside (items_of (map view items.now))) (items_inside (items_of (map view others.now))) }
@@ -135,6 +137,7 @@ fn compare_lists(items: &[Bson], others: &[Bson]) -> Ordering
     }
 }
 
+/// Element by element, in their order: by its rank, its key and its value. The document that ends first is less.
 #[cycle(trees)]
 fn compare_documents(document: &Document, other: &Document) -> Ordering
     ensures { result ≡ slice_cmp nat_cmp (members_inside (content document.now)) (members_inside (content other.now)) }

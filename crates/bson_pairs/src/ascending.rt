@@ -34,6 +34,8 @@ impl<'a, V> Model for Ascending<'a, V> {
 }
 
 impl<'a, V> Ascending<'a, V> {
+    /// `places` are those of the keys, ascending by the keys' bytes; `values` has one for each key, in the order of
+    /// `keys`.
     pub(crate) fn new(places: &'a [usize], keys: &'a [String], values: &'a [V]) -> Self
         requires places { places.now ≡ places_of (key_bytes keys.now) }
         requires lengths { length values.now ≡ length keys.now }

@@ -29,6 +29,7 @@ impl<V> Model for GrowingPairs<V> {
 }
 
 impl<V: Drop> GrowingPairs<V> {
+    /// `values` has one value for each key, in the order of the keys.
     pub(crate) fn new(keys: GrowingKeys, values: Vec<V>) -> GrowingPairs<V>
         requires { length values.items ≡ length keys }
         ensures { result ≡ entries_of keys values.items }

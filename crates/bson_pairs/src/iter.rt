@@ -29,6 +29,7 @@ impl<'a, V> Model for Iter<'a, V> {
 }
 
 impl<'a, V> Iter<'a, V> {
+    /// The pairs of these keys, each with the value at the same place.
     pub(crate) fn new(keys: &'a [String], values: &'a [V]) -> Self
         requires { length values.now ≡ length keys.now }
         ensures { result ≡ entries_of keys.now values.now }
@@ -75,6 +76,7 @@ impl<V> Model for IntoIter<V> {
 }
 
 impl<V> IntoIter<V> {
+    /// The pairs of these keys, each with the value at the same place.
     pub(crate) fn new(keys: Vec<String>, values: Vec<V>) -> Self
         requires { length values.items ≡ length keys.items }
         ensures { result ≡ entries_of keys.items values.items }

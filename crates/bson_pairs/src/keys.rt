@@ -70,6 +70,7 @@ fn lower(order: &mut [usize], taken: usize)
 }
 
 impl Keys {
+    /// No texts; it takes no memory until the first is put in.
     pub(crate) fn new(alloc: Global) -> Keys
         ensures { result ≡ [] }
     {
@@ -186,6 +187,7 @@ impl Keys {
         }
     }
 
+    /// Drops all texts, and their places in the index.
     pub(crate) fn clear(&mut self)
         ensures { self.new ≡ [] }
     {

@@ -44,6 +44,7 @@ impl<V> Model for Pairs<V> {
 }
 
 impl<V> Pairs<V> {
+    /// No pairs; it takes no memory until the first is put in.
     pub fn new(alloc: Global) -> Pairs<V>
         ensures { result ≡ [] }
     {
@@ -61,12 +62,14 @@ impl<V> Pairs<V> {
         Pairs { keys, values }
     }
 
+    /// The number of pairs.
     pub fn len(&self) -> usize
         ensures { result ≡ length self.now }
     {
         self.values.len()
     }
 
+    /// The allocator that the memory of the values comes from.
     pub fn allocator(&self) -> Global {
         *self.values.allocator()
     }
@@ -129,6 +132,7 @@ impl<V> Pairs<V> {
         self.keys.find(key)
     }
 
+    /// The value under the key. None if there is none. It takes no memory.
     pub fn get(&self, key: &str) -> Option<&V>
         ensures { option_copied result ≡ get key.now self.now }
     {
@@ -138,12 +142,14 @@ impl<V> Pairs<V> {
         }
     }
 
+    /// Whether a pair has this key, byte for byte. It takes no memory.
     pub fn contains_key(&self, key: &str) -> bool
         ensures { result ≡ has_key key.now self.now }
     {
         self.get(key).is_some()
     }
 
+    /// The value at this place, counted from 0, to be changed. None past the end.
     pub fn get_index_mut(&mut self, index: usize) -> Option<&mut V>
         ensures* writes_back { sem 𝓛 (LendsAt V.row self.entry index result) }
         ensures value { option_copied_mut result ≡ slice_get (values_of self.old) index }
@@ -151,6 +157,7 @@ impl<V> Pairs<V> {
         self.values.get_mut(index)
     }
 
+    /// The value under the key, to be changed. None if there is none; nothing is put in then.
     pub fn get_mut(&mut self, key: &str) -> Option<&mut V>
         ensures* writes_back { sem 𝓛 (LendsUnder V.row self.entry key.now result) }
         ensures value { option_copied_mut result ≡ get key.now self.old }
@@ -163,6 +170,7 @@ impl<V> Pairs<V> {
 }
 
 impl<V: Drop> Pairs<V> {
+    /// The value at this place, counted from 0, which has to be there.
     fn value_at_mut(&mut self, index: usize) -> &mut V
         requires { index < length self.old }
         ensures* writes_back { sem 𝓛 (LendsValueOf V.row self.entry index result) }
@@ -250,6 +258,7 @@ impl<V: Drop> Pairs<V> {
         }
     }
 
+    /// Takes out the pair of this key, and gives its value; the pairs behind it move up. None if the key isn't there.
     pub fn remove(&mut self, key: &str) -> Option<V>
         ensures value { result ≡ get key.now self.old }
         ensures rest { self.new ≡ without key.now self.old }
@@ -260,6 +269,7 @@ impl<V: Drop> Pairs<V> {
         }
     }
 
+    /// Drops all pairs.
     pub fn clear(&mut self)
         ensures { self.new ≡ [] }
     {

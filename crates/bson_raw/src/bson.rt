@@ -95,6 +95,7 @@ impl RawJavaScriptCodeWithScope {
         Ok(RawJavaScriptCodeWithScope { code, scope })
     }
 
+    /// The view of the code and its scope. Takes no memory.
     fn as_ref(&self) -> RawJavaScriptCodeWithScopeRef<'_>
         ensures { scoped_code result.code.now (bytes_of result.scope) ≡ scoped_code (string_bytes self.now.code) (buffer_bytes self.now.scope) }
     {
@@ -116,6 +117,7 @@ pub fn raw_binary_of(binary: &Binary) -> RawBinaryRef<'_>
     }
 }
 
+/// The view of a regular expression, its options in the order that they are kept in.
 fn regex_ref(regex: &Regex) -> RawRegexRef<'_>
     ensures pattern { result.pattern.now ≡ string_bytes regex.now.pattern }
     ensures options { result.options.now ≡ string_bytes regex.now.options }
@@ -126,6 +128,7 @@ fn regex_ref(regex: &Regex) -> RawRegexRef<'_>
     }
 }
 
+/// The view of a pointer to a document of a collection.
 fn pointer_ref(pointer: &DbPointer) -> RawDbPointerRef<'_>
     ensures namespace { result.namespace.now ≡ string_bytes pointer.now.namespace }
     ensures id { result.id ≡ pointer.now.id }

@@ -203,6 +203,7 @@ fn regex_of(alloc: Global, value: RawRegexRef<'_>) -> Result<Regex, AllocError>
     Regex::new(alloc, pattern, options)
 }
 
+/// A copy with memory of its own for the namespace. The error is a refused growth.
 fn pointer_of(alloc: Global, value: RawDbPointerRef<'_>) -> Result<DbPointer, AllocError>
     ensures namespace { IfOk result (λ p. string_bytes p.namespace ≡ value.entry.namespace.now) }
     ensures id { IfOk result (λ p. p.id ≡ value.entry.id) }

@@ -17,6 +17,8 @@ use bson_base::{
 };
 use bson_frame::{ErrorKind, name_at, text_at};
 
+/// Eight bytes, little endian: the bits of a double (BSON specification 1.1, "double"; IEEE 754-2008, binary64).
+/// `MalformedValue` for another number of bytes.
 fn double(payload: &[u8]) -> Result<RawBsonRef<'_>, ErrorKind>
     ensures { Decodes kinds.Double payload.now result }
 {
@@ -26,6 +28,9 @@ fn double(payload: &[u8]) -> Result<RawBsonRef<'_>, ErrorKind>
     Ok(RawBsonRef::Double(DoubleBits::from_bits(u64::from_le_bytes(bytes))))
 }
 
+/// A text: its length in four bytes, little endian, which counts the 00 at its end, then the text and the 00 (BSON
+/// specification 1.1, "string"). `MalformedValue` if the length is 0, negative or more than is there, or the 00 is
+/// missing; `Utf8EncodingError` if the text isn't UTF-8.
 fn string(payload: &[u8]) -> Result<RawBsonRef<'_>, ErrorKind>
     ensures { Decodes kinds.String payload.now result }
 {
@@ -33,6 +38,7 @@ fn string(payload: &[u8]) -> Result<RawBsonRef<'_>, ErrorKind>
     Ok(RawBsonRef::String(text))
 }
 
+/// Code without a scope, laid out as a string is, with the errors of `string`.
 fn javascript(payload: &[u8]) -> Result<RawBsonRef<'_>, ErrorKind>
     ensures { Decodes kinds.JavaScriptCode payload.now result }
 {
@@ -40,6 +46,7 @@ fn javascript(payload: &[u8]) -> Result<RawBsonRef<'_>, ErrorKind>
     Ok(RawBsonRef::JavaScriptCode(text))
 }
 
+/// A symbol, laid out as a string is, with the errors of `string`.
 fn symbol(payload: &[u8]) -> Result<RawBsonRef<'_>, ErrorKind>
     ensures { Decodes kinds.Symbol payload.now result }
 {
@@ -54,12 +61,16 @@ fn document_at(payload: &[u8]) -> Result<RawDocument<'_>, ErrorKind>
     RawDocument::from_bytes(payload).map_err(|e| e.kind)
 }
 
+/// A document, whose elements aren't looked at. `MalformedValue` if the payload isn't at least 5 bytes, doesn't declare
+/// its own number of bytes or doesn't end in 00 (BSON specification 1.1, "document").
 fn document(payload: &[u8]) -> Result<RawBsonRef<'_>, ErrorKind>
     ensures { Decodes kinds.EmbeddedDocument payload.now result }
 {
     Ok(RawBsonRef::Document(document_at(payload)?))
 }
 
+/// An array, laid out as a document is, with the errors of `document`. Its keys, which should be 0, 1, 2 and so on in
+/// decimal, aren't looked at (BSON specification 1.1, "element").
 fn array(payload: &[u8]) -> Result<RawBsonRef<'_>, ErrorKind>
     ensures { Decodes kinds.Array payload.now result }
 {
@@ -67,6 +78,7 @@ fn array(payload: &[u8]) -> Result<RawBsonRef<'_>, ErrorKind>
     Ok(RawBsonRef::Array(RawArray { document }))
 }
 
+/// One byte: 00 for false, 01 for true (BSON specification 1.1, "element"). `MalformedValue` for anything else.
 fn boolean(payload: &[u8]) -> Result<RawBsonRef<'_>, ErrorKind>
     ensures { Decodes kinds.Boolean payload.now result }
 {
@@ -77,6 +89,7 @@ fn boolean(payload: &[u8]) -> Result<RawBsonRef<'_>, ErrorKind>
     }
 }
 
+/// The 12 bytes of an object id, in their order. `MalformedValue` for another number of bytes.
 fn object_id(payload: &[u8]) -> Result<RawBsonRef<'_>, ErrorKind>
     ensures { Decodes kinds.ObjectId payload.now result }
 {
@@ -86,6 +99,8 @@ fn object_id(payload: &[u8]) -> Result<RawBsonRef<'_>, ErrorKind>
     Ok(RawBsonRef::ObjectId(ObjectId::from_bytes(bytes)))
 }
 
+/// The 16 bytes of a decimal, little endian, kept as they are (BSON specification 1.1, "decimal128"). `MalformedValue`
+/// for another number of bytes.
 fn decimal128(payload: &[u8]) -> Result<RawBsonRef<'_>, ErrorKind>
     ensures { Decodes kinds.Decimal128 payload.now result }
 {
@@ -95,6 +110,8 @@ fn decimal128(payload: &[u8]) -> Result<RawBsonRef<'_>, ErrorKind>
     Ok(RawBsonRef::Decimal128(Decimal128::from_bytes(bytes)))
 }
 
+/// A signed number in four bytes, little endian (BSON specification 1.1, "int32"). `MalformedValue` for another number
+/// of bytes.
 fn int32(payload: &[u8]) -> Result<RawBsonRef<'_>, ErrorKind>
     ensures { Decodes kinds.Int32 payload.now result }
 {
@@ -104,6 +121,8 @@ fn int32(payload: &[u8]) -> Result<RawBsonRef<'_>, ErrorKind>
     Ok(RawBsonRef::Int32(i32::from_le_bytes(bytes)))
 }
 
+/// A signed number in eight bytes, little endian (BSON specification 1.1, "int64"). `MalformedValue` for another number
+/// of bytes.
 fn int64(payload: &[u8]) -> Result<RawBsonRef<'_>, ErrorKind>
     ensures { Decodes kinds.Int64 payload.now result }
 {
@@ -113,6 +132,8 @@ fn int64(payload: &[u8]) -> Result<RawBsonRef<'_>, ErrorKind>
     Ok(RawBsonRef::Int64(i64::from_le_bytes(bytes)))
 }
 
+/// Milliseconds since 1970-01-01 00:00 UTC, signed, in eight bytes, little endian (BSON specification 1.1, "element").
+/// `MalformedValue` for another number of bytes.
 fn date_time(payload: &[u8]) -> Result<RawBsonRef<'_>, ErrorKind>
     ensures { Decodes kinds.DateTime payload.now result }
 {
@@ -123,6 +144,8 @@ fn date_time(payload: &[u8]) -> Result<RawBsonRef<'_>, ErrorKind>
     Ok(RawBsonRef::DateTime(DateTime::from_millis(millis)))
 }
 
+/// The increment in the first four bytes and the seconds in the last four, both unsigned and little endian (BSON
+/// specification 1.1, "element"). `MalformedValue` for any number of bytes but eight.
 fn timestamp(payload: &[u8]) -> Result<RawBsonRef<'_>, ErrorKind>
     ensures { Decodes kinds.Timestamp payload.now result }
 {
@@ -135,6 +158,8 @@ fn timestamp(payload: &[u8]) -> Result<RawBsonRef<'_>, ErrorKind>
     }))
 }
 
+/// A namespace, laid out as a string is, with the errors of `string`, and the 12 bytes of an object id.
+/// `MalformedValue` if another number of bytes follows the namespace.
 fn db_pointer(payload: &[u8]) -> Result<RawBsonRef<'_>, ErrorKind>
     ensures { Decodes kinds.DbPointer payload.now result }
 {
@@ -146,6 +171,9 @@ fn db_pointer(payload: &[u8]) -> Result<RawBsonRef<'_>, ErrorKind>
     Ok(RawBsonRef::DbPointer(RawDbPointerRef { namespace, id }))
 }
 
+/// The bytes after four of length, which aren't looked at, and one of subtype; those of an old binary (02) without
+/// their inner length of four bytes, little endian (BSON specification 1.1, "binary"). `MalformedValue` if the payload
+/// has fewer than 5 bytes, and if the inner length isn't there or isn't the number of bytes after it.
 fn binary(payload: &[u8]) -> Result<RawBsonRef<'_>, ErrorKind>
     ensures { Decodes kinds.Binary payload.now result }
 {
@@ -172,6 +200,9 @@ fn binary(payload: &[u8]) -> Result<RawBsonRef<'_>, ErrorKind>
     }))
 }
 
+/// Code and the bytes of its scope, after four bytes of length, which aren't looked at (BSON specification 1.1,
+/// "code_w_s"). `MalformedValue` for fewer than 14 bytes; else the errors of `string` for the code, and of `document`
+/// for the scope.
 fn code_with_scope(payload: &[u8]) -> Result<RawBsonRef<'_>, ErrorKind>
     ensures { Decodes kinds.JavaScriptCodeWithScope payload.now result }
 {
@@ -185,6 +216,8 @@ fn code_with_scope(payload: &[u8]) -> Result<RawBsonRef<'_>, ErrorKind>
     Ok(RawBsonRef::JavaScriptCodeWithScope(RawJavaScriptCodeWithScopeRef { code, scope }))
 }
 
+/// A pattern and its options, which keep their order, each ended by a 00 (BSON specification 1.1, "cstring").
+/// `Utf8EncodingError` if one isn't UTF-8, `MalformedValue` if a 00 is missing.
 fn regex(payload: &[u8]) -> Result<RawBsonRef<'_>, ErrorKind>
     ensures { Decodes kinds.RegularExpression payload.now result }
 {

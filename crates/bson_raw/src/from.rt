@@ -13,6 +13,7 @@ use bson_base::{DateTime, Decimal128, DoubleBits, ObjectId, Timestamp};
 impl<'a> From<&'a str> for RawBsonRef<'a> {
     ghost from_gives = { λ value result. result ≡ views.String value };
 
+    /// A string, neither code nor a symbol.
     fn from(value: &'a str) -> RawBsonRef<'a> {
         RawBsonRef::String(value)
     }
@@ -29,6 +30,7 @@ impl<'a> From<i32> for RawBsonRef<'a> {
 impl<'a> From<i64> for RawBsonRef<'a> {
     ghost from_gives = { λ value result. result ≡ views.Int64 value };
 
+    /// An int64, even if the number fits 32 bits.
     fn from(value: i64) -> RawBsonRef<'a> {
         RawBsonRef::Int64(value)
     }

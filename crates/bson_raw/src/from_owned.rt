@@ -19,6 +19,7 @@ impl From<i32> for RawBson {
 impl From<i64> for RawBson {
     ghost from_gives = { λ value result. result ≡ raw.Int64 value };
 
+    /// An int64, even if the number fits 32 bits.
     fn from(value: i64) -> RawBson {
         RawBson::Int64(value)
     }
@@ -27,6 +28,7 @@ impl From<i64> for RawBson {
 impl From<String> for RawBson {
     ghost from_gives = { λ value result. result ≡ raw.String value };
 
+    /// A string, neither code nor a symbol.
     fn from(value: String) -> RawBson {
         RawBson::String(value)
     }

@@ -25,6 +25,8 @@ impl<'a> Iterator for Iter<'a> {
 
     ghost remaining = { λ s. at_most (items_left (pairs_left s)) };
 
+    /// A faulty payload gives its fault under the element's key, or `OutOfMemory` under none if there is no memory for
+    /// the key, and the walk goes on after it. A structural fault, under no key, is the last item.
     fn next(&mut self) -> Option<Result<(&'a str, RawBsonRef<'a>), Error>> {
         match self.raw.next()? {
             Ok(element) => match element.value(self.alloc) {

@@ -24,6 +24,7 @@ fn own_regex(alloc: Global, regex: RawRegexRef<'_>) -> Result<Regex, AllocError>
     Ok(Regex { pattern, options })
 }
 
+/// A copy with memory of its own for the namespace. The error is a refused growth.
 fn own_pointer(alloc: Global, pointer: RawDbPointerRef<'_>) -> Result<DbPointer, AllocError>
     ensures namespace { IfOk result (λ p. string_bytes p.namespace ≡ pointer.entry.namespace.now) }
     ensures id { IfOk result (λ p. p.id ≡ pointer.entry.id) }
@@ -35,6 +36,7 @@ fn own_pointer(alloc: Global, pointer: RawDbPointerRef<'_>) -> Result<DbPointer,
     })
 }
 
+/// A copy of the code and of the bytes of its scope, whose elements aren't looked at. The error is a refused growth.
 fn own_code(
     alloc: Global,
     code: RawJavaScriptCodeWithScopeRef<'_>,

@@ -22,6 +22,8 @@ impl<'a> Iterator for RawIter<'a> {
 
     ghost remaining = { λ s. at_most (items_left (left_of s)) };
 
+    /// `MalformedValue` or `Utf8EncodingError`, under no key, if the bytes left don't begin with an element; None after
+    /// that.
     fn next(&mut self) -> Option<Result<RawElement<'a>, Error>> {
         bson_frame::laws::payload_by_itself();
         let bytes = self.rest?;

@@ -18,6 +18,7 @@ use sqlite::Alter;
 use std::alloc::AllocError;
 use store_model::{ErrorKind, StoreError};
 
+/// The reply to a write that returns nothing.
 fn done(outcome: Result<(), StoreError>) -> Reply
     ensures { reply_of result ≡ reply_by as_done outcome }
 {
@@ -27,6 +28,7 @@ fn done(outcome: Result<(), StoreError>) -> Reply
     }
 }
 
+/// The reply to a call that says whether a key was there.
 fn flag(outcome: Result<bool, StoreError>) -> Reply
     ensures { reply_of result ≡ reply_by as_flag outcome }
 {
@@ -36,6 +38,7 @@ fn flag(outcome: Result<bool, StoreError>) -> Reply
     }
 }
 
+/// The reply to a call that returns one written document.
 fn bytes_reply(outcome: Result<Vec<u8>, StoreError>) -> Reply
     ensures { reply_of result ≡ reply_by as_bytes outcome }
 {
@@ -45,6 +48,7 @@ fn bytes_reply(outcome: Result<Vec<u8>, StoreError>) -> Reply
     }
 }
 
+/// The reply to a call that returns one document as Extended JSON.
 fn json(outcome: Result<Value, StoreError>) -> Reply
     ensures { reply_of result ≡ reply_by as_json outcome }
 {
@@ -54,6 +58,7 @@ fn json(outcome: Result<Value, StoreError>) -> Reply
     }
 }
 
+/// The reply to a call that returns a number of documents.
 fn counted(outcome: Result<u64, StoreError>) -> Reply
     ensures { reply_of result ≡ reply_by as_number outcome }
 {
@@ -63,6 +68,7 @@ fn counted(outcome: Result<u64, StoreError>) -> Reply
     }
 }
 
+/// The reply to a call that returns written documents, each by itself.
 fn list(outcome: Result<Vec<Vec<u8>>, StoreError>) -> Reply
     ensures { reply_of result ≡ reply_by as_list outcome }
 {
@@ -72,6 +78,7 @@ fn list(outcome: Result<Vec<Vec<u8>>, StoreError>) -> Reply
     }
 }
 
+/// The reply to a call that returns names of collections.
 fn names(outcome: Result<Vec<String>, StoreError>) -> Reply
     ensures { reply_of result ≡ reply_by as_names outcome }
 {
@@ -81,6 +88,7 @@ fn names(outcome: Result<Vec<String>, StoreError>) -> Reply
     }
 }
 
+/// The reply to a call that returns documents as Extended JSON, one after the other.
 fn json_list(outcome: Result<Vec<Value>, StoreError>) -> Reply
     ensures { reply_of result ≡ reply_by as_json_list outcome }
 {

@@ -78,6 +78,7 @@ fn read(alloc: Global, value: &Value<'_>, inner: usize) -> Result<Bson, Unread>
     }
 }
 
+/// The items of an array, in their order. At most `inner` levels may be nested, the array among them; else `Unseen`.
 #[cycle(read)]
 fn read_items(alloc: Global, items: &[Value<'_>], inner: usize) -> Result<Vec<Bson>, Unread>
     ensures { IfOk result (λ v. ItemsHaveNumbers (items_view items.now) → ReadsItems (items_view items.now) (items_of (map view v.items))) }

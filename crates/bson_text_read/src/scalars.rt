@@ -53,6 +53,7 @@ fn single<'v, 'a>(value: &'v Value<'a>, key: &str) -> Option<&'v Value<'a>>
     }
 }
 
+/// The body of `$oid`. None if it is no text of 24 hexadecimal digits.
 fn object_id(value: &Value<'_>) -> Option<ObjectId>
     ensures { IfSome result (λ id. ReadsWrapped of_id (value_view value.now) (scalar (id_value (id_bytes id)))) }
 {
@@ -62,18 +63,22 @@ fn object_id(value: &Value<'_>) -> Option<ObjectId>
     }
 }
 
+/// The body of `$numberInt`. None if it is no text of a whole number in the range of 32 bits.
 fn int(value: &Value<'_>) -> Option<i32>
     ensures { IfSome result (λ z. ReadsWrapped of_int (value_view value.now) (scalar (int32 z))) }
 {
     read_int(text_in(value)?)
 }
 
+/// The body of `$numberLong`. None if it is no text of a whole number in the range of 64 bits.
 fn long(value: &Value<'_>) -> Option<i64>
     ensures { IfSome result (λ z. ReadsWrapped of_long (value_view value.now) (scalar (int64 z))) }
 {
     read_long(text_in(value)?)
 }
 
+/// The body of `$date`, whose milliseconds since 1970 are the text under `$numberLong` alone. None for any other form,
+/// so for the date text of the relaxed form too.
 fn date(value: &Value<'_>) -> Option<DateTime>
     ensures { IfSome result (λ d. ReadsWrapped of_date (value_view value.now) (scalar (date_time (millis_of d)))) }
 {

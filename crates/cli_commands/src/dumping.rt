@@ -32,6 +32,7 @@ impl<'w, O: Sink> TakeText for Printer<'w, O> {
     ghost stopped = { λ first p e. (first.output.ghost_name ≡ p.output.ghost_name)
         × IsFault Writer (O.tally first.output.now).failures (O.tally p.output.now).failures e };
 
+    /// Writes the text and a line feed. Refused by Writer if that fails; each later text is then refused unwritten.
     fn take_text(&mut self, text: &str) -> Result<(), StoreError> {
         if self.failed {
             return Err(StoreError::from(ErrorKind::Writer));

@@ -33,6 +33,7 @@ enum Task {
     Help,
 }
 
+/// What `--canonical`, `--to-bson` or `--help` asks for as the only word. None for any other word.
 fn task_of_word(word: &str) -> Option<Task>
     ensures { result ≡ asked_by_word word.now }
 {
@@ -44,6 +45,8 @@ fn task_of_word(word: &str) -> Option<Task>
     }
 }
 
+/// What the words ask for: without a word, lines of relaxed Extended JSON. None if there are two or more, or if the one
+/// isn't known.
 fn task_of(words: &[String]) -> Option<Task>
     ensures { result ≡ asked_by (map string_bytes words.now) }
 {

@@ -21,6 +21,7 @@ pub const MISUSED: u8 = 2;
 /// The line if there is no memory for another one.
 const OUT_OF_MEMORY: &str = "refused: Memory\n";
 
+/// The word for a kind of fault in a report; `Memory` for a refused growth.
 fn kind_name(kind: ErrorKind) -> &'static str
     ensures { result.now ≡ name_of_kind kind }
 {
@@ -31,6 +32,8 @@ fn kind_name(kind: ErrorKind) -> &'static str
     }
 }
 
+/// The line for a document, counted from 0: `refused: KIND document PLACE`, then `more`, which is empty or begins with
+/// a space, and a line feed.
 fn refusal(alloc: Global, kind: &str, place: u64, more: &str) -> Result<String, AllocError>
     ensures { IfOk result (λ t. string_bytes t ≡ refusal_of kind.now place more.now) }
 {
@@ -69,6 +72,8 @@ fn fault_line(alloc: Global, place: u64, fault: &Fault) -> Result<String, AllocE
     }
 }
 
+/// The line for a line of the input, counted from 1: `words: line NUMBER`, then `byte`, which is empty or begins with a
+/// space, and then a space, the kind and a line feed.
 fn misuse(alloc: Global, number: u64, byte: &str, kind: &str) -> Result<String, AllocError>
     ensures { IfOk result (λ t. string_bytes t ≡ misuse_of number byte.now kind.now) }
 {
@@ -124,6 +129,7 @@ fn line_line(alloc: Global, number: u64, fault: &LineFault) -> Result<String, Al
     }
 }
 
+/// What is reported of a conversion that ended so, with the line feed.
 fn stop_line(alloc: Global, stop: &Stop) -> Result<String, AllocError>
     ensures { IfOk result (λ t. string_bytes t ≡ stop_text stop.now) }
 {
@@ -136,6 +142,7 @@ fn stop_line(alloc: Global, stop: &Stop) -> Result<String, AllocError>
     }
 }
 
+/// The program's status after a conversion that ended so: 2 if a line of the input is at fault, else 1.
 fn status_of(stop: &Stop) -> u8
     ensures { result ≡ stop_status stop.now }
 {

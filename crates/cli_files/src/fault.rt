@@ -98,6 +98,8 @@ impl From<io::Error> for FileError {
 
     ghost from_gives = { λ e f. f ≡ fault_of_io (error_kind e) };
 
+    /// `NoFolder` if a name isn't found, `Denied` if the system doesn't allow it or the disk is read-only, `Exists` if
+    /// there is a file already, `NotPlain` if it is no plain file, `Memory` if there is no memory, and else `Disk`.
     fn from(error: io::Error) -> FileError {
         match error.kind() {
             io::ErrorKind::OutOfMemory => FileError::Memory,
@@ -119,6 +121,8 @@ impl From<OpenError> for FileError {
 
     ghost from_gives = { λ e f. f ≡ fault_of_opening e };
 
+    /// `Journal` if a rollback journal has yet to be played back. An error of a call of the system is taken by its
+    /// kind.
     fn from(error: OpenError) -> FileError {
         match error {
             OpenError::OutOfMemory => FileError::Memory,
@@ -136,6 +140,7 @@ impl From<sqlite::Error> for FileError {
 
     ghost from_gives = { λ e f. f ≡ fault_of_sql e };
 
+    /// `NoDatabase` if the file is no database or a damaged one, `Memory` if there is no memory, and else `Disk`.
     fn from(error: sqlite::Error) -> FileError {
         match error {
             sqlite::Error::SqliteFailure(ErrorCode::OutOfMemory) => FileError::Memory,

@@ -91,14 +91,17 @@ impl Disk for Loaded {
 
     ghost seen_may_stay = { λ _. refl };
 
+    /// False: a crash leaves no torn write, as nothing goes back to the file.
     fn mixes(&self) -> bool {
         false
     }
 
+    /// 0: no digest is tested, so there is no secret.
     fn key(&self) -> u64 {
         0
     }
 
+    /// Both counts stay 0: memory has no damage, and there is no disk that could be full.
     fn tally(&self) -> Tally {
         Tally {
             caught: 0,
@@ -106,14 +109,17 @@ impl Disk for Loaded {
         }
     }
 
+    /// True: no sync fails.
     fn may_be_used(&self) -> bool {
         true
     }
 
+    /// The length in bytes, with what was written since the file was read. It never fails.
     fn len(&mut self) -> io::Result<usize> {
         Ok(self.bytes.len())
     }
 
+    /// Fills `buf` from this offset on. `UnexpectedEof` if that reaches past the end, which isn't counted as a fault.
     fn read_at(&mut self, at: usize, buf: &mut [u8]) -> io::Result<()> {
         if at > self.bytes.len() || buf.len() > self.bytes.len() - at {
             return Err(io::ErrorKind::UnexpectedEof.into());
@@ -122,18 +128,23 @@ impl Disk for Loaded {
         Ok(())
     }
 
+    /// As `read_at`: the digest isn't tested, since memory returns what was written to it.
     fn read_checked(&mut self, _key: u64, _want: u64, at: usize, buf: &mut [u8]) -> io::Result<()> {
         self.read_at(at, buf)
     }
 
+    /// Writes to memory alone, and grows if the bytes reach past the end, with zeros before them. `OutOfMemory`,
+    /// counted as a fault, if it can't grow.
     fn write_at(&mut self, at: usize, bytes: &[u8]) -> io::Result<()> {
         count(overwrite(&mut self.bytes, at, bytes), &mut self.faults)
     }
 
+    /// Cuts the end off, or puts zeros behind it. `OutOfMemory`, counted as a fault, if a growth was refused.
     fn set_len(&mut self, len: usize) -> io::Result<()> {
         count(resize(&mut self.bytes, len), &mut self.faults)
     }
 
+    /// Has nothing to do: nothing goes back to the file.
     fn sync(&mut self) -> io::Result<()> {
         Ok(())
     }

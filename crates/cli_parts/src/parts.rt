@@ -261,14 +261,17 @@ impl<S: Start> Disk for FileParts<S> {
 
     ghost seen_may_stay = { λ _. refl };
 
+    /// False: nothing is written, so a crash leaves no torn write.
     fn mixes(&self) -> bool {
         false
     }
 
+    /// 0: no digest is tested, so there is no secret.
     fn key(&self) -> u64 {
         0
     }
 
+    /// Both counts stay 0: no digest is tested, and nothing is written.
     fn tally(&self) -> Tally {
         Tally {
             caught: 0,
@@ -276,10 +279,12 @@ impl<S: Start> Disk for FileParts<S> {
         }
     }
 
+    /// True: nothing is written that a sync could lose.
     fn may_be_used(&self) -> bool {
         true
     }
 
+    /// The bytes that the file had as it was opened, or those that are in memory.
     fn len(&mut self) -> io::Result<usize> {
         match self.file {
             Some(_) => Ok(self.len),
@@ -287,6 +292,8 @@ impl<S: Start> Disk for FileParts<S> {
         }
     }
 
+    /// Fills `buf` from this offset on. `UnexpectedEof` past the end, and `OutOfMemory` if what was read of the file
+    /// can't be kept. Each failure is counted.
     fn read_at(&mut self, at: usize, buf: &mut [u8]) -> io::Result<()> {
         let read = self.read_part(at, buf);
         count(read, &mut self.faults)

@@ -36,6 +36,7 @@ impl<T: Drop> From<AllocFailed<T>> for TextError {
 
     ghost from_gives = { λ _ e. e ≡ Memory };
 
+    /// Drops the value for which there was no room.
     fn from(failed: AllocFailed<T>) -> TextError {
         drop(failed);
         TextError::Memory
@@ -49,6 +50,7 @@ impl From<serde_json::Error> for TextError {
 
     ghost from_gives = { λ x e. (IsMemory x × (e ≡ Memory)) ⊎ ((IsMemory x → ⊥) × (e ≡ Unreadable)) };
 
+    /// Memory if that ran out; every other error means that the text is no JSON that can be read.
     fn from(error: serde_json::Error) -> TextError {
         match error.classify() {
             serde_json::Category::Memory => TextError::Memory,
@@ -64,6 +66,7 @@ impl From<extjson::de::Error> for TextError {
 
     ghost from_gives = { λ x e. ((x ≡ json_faults.Memory) × (e ≡ Memory)) ⊎ ((x ≢ json_faults.Memory) × (e ≡ Unreadable)) };
 
+    /// Memory if that ran out; every other error means that the JSON tree stands for no value.
     fn from(error: extjson::de::Error) -> TextError {
         match error {
             extjson::de::Error::Memory => TextError::Memory,

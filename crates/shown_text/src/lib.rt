@@ -82,6 +82,7 @@ fn quoted(alloc: Global, text: &str) -> Result<String, AllocError>
     Ok(line)
 }
 
+/// Whether the first character is a double quote, as in what is shown as JSON. False for an empty text.
 fn begins_with_quote(text: &str) -> bool
     ensures { result ≡ begins_with_quote text.now }
 {

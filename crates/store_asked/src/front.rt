@@ -33,6 +33,7 @@ fn is_indexed<S: Alter + Drop>(store: &Store<S>, name: &str, question: &Question
     }
 }
 
+/// Whether the collection `name` has an index on a path that one of the questions names.
 #[cycle(indexed)]
 fn has_indexed<S: Alter + Drop>(store: &Store<S>, name: &str, list: &[Question]) -> bool {
     for question in list {

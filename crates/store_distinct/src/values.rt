@@ -157,6 +157,8 @@ fn add_opened(
     }
 }
 
+/// Adds the items of an array as they stand: an array among them is added whole. Those after a fault in the bytes are
+/// left out. Errors as of `add`.
 fn add_items(
     alloc: Global,
     items: RawDocument<'_>,
@@ -173,6 +175,7 @@ fn add_items(
     Ok(())
 }
 
+/// Adds the value of one item, unless its payload has a fault. Errors as of `add`.
 fn add_item(
     alloc: Global,
     element: &RawElement<'_>,

@@ -104,6 +104,7 @@ fn key_before(alloc: Global, body: &[u8]) -> Result<Vec<u8>, AllocError>
     }
 }
 
+/// Whether the two are equal byte for byte, and equally long.
 fn is_same(bytes: &[u8], others: &[u8]) -> bool
     ensures { IsTrue result ↔ (bytes.now ≡ others.now) }
 {

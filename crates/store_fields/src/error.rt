@@ -37,6 +37,7 @@ impl<T: Drop> From<AllocFailed<T>> for PathsError {
 
     ghost from_gives = { λ _ e. e ≡ Memory };
 
+    /// Drops the value for which there was no room.
     fn from(failed: AllocFailed<T>) -> PathsError {
         drop(failed);
         PathsError::Memory

@@ -54,6 +54,7 @@ pub fn check_mixed(kept: &[Vec<String>], left_out: &[Vec<String>]) -> Result<(),
     Ok(())
 }
 
+/// Whether there is one path, and it is `_id` itself: no path below it counts.
 fn is_id(paths: &[Vec<String>]) -> bool
     ensures { result ≡ is_of_id (paths_seen paths.now) }
 {
@@ -66,6 +67,7 @@ fn is_id(paths: &[Vec<String>]) -> bool
     }
 }
 
+/// The paths of a text, not yet tested: some keys may be empty, and paths may meet. The error is a refused growth.
 fn read_paths(alloc: Global, text: &str) -> Result<Vec<Vec<String>>, AllocError>
     ensures { IfOk result (λ paths. paths_seen paths.items ≡ paths_in text.now) }
 {
@@ -77,18 +79,21 @@ fn read_paths(alloc: Global, text: &str) -> Result<Vec<Vec<String>>, AllocError>
     Ok(paths)
 }
 
+/// The parts of a text between its commas, at least one; a part can be empty. The error is a refused growth.
 fn parts_at_commas(alloc: Global, text: &str) -> Result<Vec<&str>, AllocError>
     ensures { IfOk result (λ parts. map (λ x. x.now) parts.items ≡ slice_split (λ b. b == 0x2C) text.now) }
 {
     text.split(',').collect(alloc)
 }
 
+/// The keys of one path, split at its dots; a key can be empty. The error is a refused growth.
 fn path_in(alloc: Global, text: &str) -> Result<Vec<String>, AllocError>
     ensures { IfOk result (λ path. path_of path.items ≡ keys_in text.now) }
 {
     Ok(sort_key_by(alloc, text, false)?.path)
 }
 
+/// Whether a key can be part of a path: it isn't empty, and doesn't begin with `$`.
 fn is_key(key: &str) -> bool
     ensures { result ≡ is_name key.now }
 {
@@ -98,6 +103,7 @@ fn is_key(key: &str) -> bool
     }
 }
 
+/// Whether each of these can be a key of a path. A path without keys passes.
 fn are_keys(keys: &[String]) -> bool
     ensures { result ≡ list_all is_name (path_of keys.now) }
 {
@@ -109,6 +115,7 @@ fn are_keys(keys: &[String]) -> bool
     true
 }
 
+/// Whether no path has a key that is empty or begins with `$`.
 fn have_keys(paths: &[Vec<String>]) -> bool
     ensures { result ≡ all_keys (paths_seen paths.now) }
 {
@@ -133,6 +140,7 @@ fn meets(path: &[String], other: &[String]) -> bool
     key.as_str() == name.as_str() && meets(rest, others)
 }
 
+/// Whether a path and one of the others are the same, or one of the two is the beginning of the other.
 fn meets_any(path: &[String], others: &[Vec<String>]) -> bool
     ensures { result ≡ list_any (meet (path_of path.now)) (paths_seen others.now) }
 {

@@ -53,6 +53,7 @@ fn copy_listed(elements: &[u8], keys: &[String], out: &mut Vec<u8>) -> Result<()
     Ok(())
 }
 
+/// Whether the list has the key, byte for byte: a dot in it is a byte like any other.
 fn is_listed(key: &str, keys: &[String]) -> bool
     ensures { result ≡ list_any (λ k. bytes_eq key.now (string_bytes k)) keys.now }
 {

@@ -30,6 +30,7 @@ pub fn selects(document: RawDocument<'_>, filter: &Filter) -> bool
     }
 }
 
+/// Whether each of the filters selects the document. An empty list selects every document.
 #[cycle(filters)]
 fn selects_all(document: RawDocument<'_>, filters: &[Filter]) -> bool
     ensures { OfWritten (bytes_of document.entry) (λ d. IsTrue result ↔ SelectsAll (tests_of (map filter_of filters.now)) (tree d)) }
@@ -42,6 +43,7 @@ fn selects_all(document: RawDocument<'_>, filters: &[Filter]) -> bool
     true
 }
 
+/// Whether one of the filters selects the document. An empty list selects none.
 #[cycle(filters)]
 fn selects_any(document: RawDocument<'_>, filters: &[Filter]) -> bool
     ensures { OfWritten (bytes_of document.entry) (λ d. IsTrue result ↔ SelectsAny (tests_of (map filter_of filters.now)) (tree d)) }

@@ -134,6 +134,7 @@ impl StoreError {
 impl From<ErrorKind> for StoreError {
     ghost from_gives = { λ k e. e ≡ refusal k };
 
+    /// A refusal that names no document.
     fn from(kind: ErrorKind) -> StoreError {
         StoreError {
             kind,
@@ -153,6 +154,7 @@ impl From<AllocError> for StoreError {
 impl<T: Drop> From<AllocFailed<T>> for StoreError {
     ghost from_gives = { λ _ e. e ≡ refusal Memory };
 
+    /// Drops the value for which there was no room.
     fn from(failed: AllocFailed<T>) -> StoreError {
         drop(failed);
         StoreError::from(ErrorKind::Memory)
@@ -162,6 +164,7 @@ impl<T: Drop> From<AllocFailed<T>> for StoreError {
 impl From<DeviceFault> for StoreError {
     ghost from_gives = { λ _ e. e ≡ refusal Writer };
 
+    /// Writer: the fault of a device that takes bytes. One that gives them is told by `ReadAllError`.
     fn from(_fault: DeviceFault) -> StoreError {
         StoreError::from(ErrorKind::Writer)
     }

@@ -272,6 +272,8 @@ impl<D: Disk> Pages for Snapshot<D> {
 
     ghost follows_trans = { Stays-trans };
 
+    /// Refused by Corrupt if there is no page of the number, which counts from 1; and by Io if a read fails, and at
+    /// each load after that.
     fn load(&mut self, page: u32) -> Result<(), Error> {
         if self.has_failed {
             return Err(Error::Io);
@@ -304,18 +306,22 @@ impl<D: Disk> Pages for Snapshot<D> {
         }
     }
 
+    /// After a load that ended in Io, these bytes are of no page.
     fn loaded(&self) -> &[u8] {
         self.page.as_slice()
     }
 
+    /// Refused by Full: nothing is written to a snapshot.
     fn write(&mut self, _page: u32, _bytes: &[u8]) -> Result<(), Error> {
         Err(Error::Full)
     }
 
+    /// Refused by Full: a snapshot gets no new pages.
     fn allocate(&mut self) -> Result<u32, Error> {
         Err(Error::Full)
     }
 
+    /// Refused by Full: a snapshot gives no page up.
     fn free(&mut self, _page: u32) -> Result<(), Error> {
         Err(Error::Full)
     }

@@ -43,6 +43,7 @@ fn fits(value: Option<RawBsonRef<'_>>, question: &Question) -> bool
     }
 }
 
+/// Whether a value, or nothing, answers each of the questions. An empty list is answered by everything.
 #[cycle(asking)]
 fn fits_all(value: Option<RawBsonRef<'_>>, list: &[Question]) -> bool
     ensures { (ts : Askeds) → ReadEach (forms_of (map form_of list.now)) ts → (o : Maybe Value) → Shows value.entry o
@@ -56,6 +57,7 @@ fn fits_all(value: Option<RawBsonRef<'_>>, list: &[Question]) -> bool
     true
 }
 
+/// Whether a value, or nothing, answers one of the questions. An empty list is answered by nothing.
 #[cycle(asking)]
 fn fits_any(value: Option<RawBsonRef<'_>>, list: &[Question]) -> bool
     ensures { (ts : Askeds) → ReadEach (forms_of (map form_of list.now)) ts → (o : Maybe Value) → Shows value.entry o
@@ -98,6 +100,7 @@ fn any_member(items: RawDocument<'_>, question: &Question) -> bool
     false
 }
 
+/// Whether an element's value answers. One whose payload has a fault answers no question, not even a negated one.
 #[cycle(asking)]
 fn member_fits(element: &RawElement<'_>, question: &Question) -> bool
     ensures { (t : Asked) → Reads (form_of question.now) t → OfElement (parts_of element.now)
@@ -160,6 +163,7 @@ fn at_member(value: RawBsonRef<'_>, path: &[String], question: &Question, opens:
     }
 }
 
+/// Whether the value at the end of a path answers: as it stands, or, if `opens`, by one of its items if it is an array.
 #[cycle(asking)]
 fn at_end(value: RawBsonRef<'_>, question: &Question, opens: bool) -> bool
     ensures { (t : Asked) → Reads (form_of question.now) t → (v : Value) → Found value.entry v

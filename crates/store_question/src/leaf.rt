@@ -33,6 +33,7 @@ pub(crate) fn lies(
     }
 }
 
+/// What `lies` says of a value that is there.
 fn lies_so(here: RawBsonRef<'_>, comparison: Comparison, other: RawBsonRef<'_>) -> bool
     ensures { (v w : Value) → SpellsRawValue (ref_value here.entry) v → SpellsRawValue (ref_value other.entry) w
         → levels v ≤ 200 → result ≡ lies_to comparison v w }
@@ -59,6 +60,7 @@ fn apart(comparison: Comparison, other: RawBsonRef<'_>) -> bool
     }
 }
 
+/// Whether the comparison admits this order of the value to the one it is compared with.
 fn holds(comparison: Comparison, order: Ordering) -> bool
     ensures { result ≡ holds_so comparison order }
 {
@@ -71,6 +73,7 @@ fn holds(comparison: Comparison, order: Ordering) -> bool
     }
 }
 
+/// Whether there is a value, of exactly this element type: an integer of 64 bits is none of 32, whatever its size.
 pub(crate) fn has_kind(value: Option<RawBsonRef<'_>>, kind: ElementType) -> bool
     ensures { (o : Maybe Value) → Shows value.entry o → IsTrue result ↔ IsSomeAnd o (λ v. value_kind v ≡ kind) }
 {
@@ -92,6 +95,8 @@ pub(crate) fn leaves(value: Option<RawBsonRef<'_>>, divisor: i64, remainder: i64
     }
 }
 
+/// Whether a whole part leaves the remainder, which has the sign of the part. False without a whole part, and for a
+/// divisor of 0.
 fn leaves_by(part: Option<i64>, divisor: i64, remainder: i64) -> bool
     ensures { result ≡ leaves_so divisor remainder part }
 {
@@ -110,6 +115,7 @@ pub fn items_in(value: Option<RawBsonRef<'_>>) -> Option<RawDocument<'_>>
     RawDocument::from_bytes(array.as_bytes()).ok()
 }
 
+/// Whether there is an array of exactly this many items. One whose bytes have a fault has no size.
 pub(crate) fn has_size(value: Option<RawBsonRef<'_>>, size: u64) -> bool
     ensures { (o : Maybe Value) → Shows value.entry o → IsTrue result ↔ HasSize size o }
 {
@@ -119,6 +125,7 @@ pub(crate) fn has_size(value: Option<RawBsonRef<'_>>, size: u64) -> bool
     }
 }
 
+/// Whether a document has exactly this many elements. One whose elements have a fault has no such number.
 fn has_so_many(items: RawDocument<'_>, size: u64) -> bool
     ensures { OfMembers (bytes_of items.entry) (λ ms. IsTrue result ↔ (count_of ms ≡ size)) }
 {

@@ -24,12 +24,14 @@ use std::alloc::{AllocError, Global};
 use store_filter::Filter;
 use store_question::Comparison;
 
+/// Every document: a conjunction of no filters.
 pub(crate) fn everything(alloc: Global) -> Filter
     ensures { filter_of result ≡ all_of no_filters }
 {
     Filter::And(Vec::new(alloc))
 }
 
+/// One of the two filters selects the document. The error is a refused growth.
 pub(crate) fn either(alloc: Global, first: Filter, second: Filter) -> Result<Filter, AllocError>
     ensures { IfOk result (λ f. filter_of f ≡ Either (filter_of first) (filter_of second)) }
 {
@@ -39,6 +41,7 @@ pub(crate) fn either(alloc: Global, first: Filter, second: Filter) -> Result<Fil
     Ok(Filter::Or(filters))
 }
 
+/// A copy of a path for a filter to own. The error is a refused growth.
 fn copied(alloc: Global, path: &[String]) -> Result<Vec<String>, AllocError>
     ensures { IfOk result (λ v. path_of v.items ≡ path_of path.now) }
 {
@@ -71,6 +74,7 @@ fn same(alloc: Global, path: &[String], value: Bson) -> Result<Filter, AllocErro
     Ok(Filter::Eq(path, value))
 }
 
+/// The path leads to a value of exactly this element type. The error is a refused growth.
 pub(crate) fn of_kind(
     alloc: Global,
     path: &[String],
@@ -82,6 +86,7 @@ pub(crate) fn of_kind(
     Ok(Filter::Kind(path, kind))
 }
 
+/// The path leads to a value, which may be null. The error is a refused growth.
 pub(crate) fn there(alloc: Global, path: &[String]) -> Result<Filter, AllocError>
     ensures { IfOk result (λ f. filter_of f ≡ exists (path_of path.now)) }
 {
@@ -125,6 +130,7 @@ pub(crate) fn compared(
     }
 }
 
+/// The value at the path is this text, as a string or as a symbol. The error is a refused growth.
 fn texts(alloc: Global, path: &[String], text: &str) -> Result<Filter, AllocError>
     ensures { IfOk result (λ f. filter_of f ≡ texts_at (path_of path.now) text.now) }
 {
@@ -133,6 +139,7 @@ fn texts(alloc: Global, path: &[String], text: &str) -> Result<Filter, AllocErro
     either(alloc, plain, symbol)
 }
 
+/// The filter doesn't select the document. The error is a refused growth.
 fn not(alloc: Global, filter: Filter) -> Result<Filter, AllocError>
     ensures { IfOk result (λ f. filter_of f ≡ no (filter_of filter)) }
 {
@@ -199,6 +206,7 @@ fn fractions(alloc: Global, path: &[String], double: DoubleBits) -> Result<Filte
     either(alloc, nearest, decimals)
 }
 
+/// The value at the path is equal to this double, in each kind that can hold it. The error is a refused growth.
 fn doubles(alloc: Global, path: &[String], double: DoubleBits) -> Result<Filter, AllocError>
     ensures { IfOk result (λ f. Reaches (path_of path.now) (scalar (as_double_value double.0)) (filter_of f)) }
 {

@@ -34,6 +34,7 @@ pub fn prefilter(alloc: Global, question: &Question) -> Result<Filter, AllocErro
     }
 }
 
+/// The filter in front of each question, in the order of the questions. The error is a refused growth.
 #[cycle(front)]
 fn each(alloc: Global, list: &[Question]) -> Result<Vec<Filter>, AllocError>
     ensures { IfOk result (λ fs. (ts : Askeds) → ReadEach (forms_of (map form_of list.now)) ts
@@ -83,6 +84,7 @@ fn at_place(alloc: Global, path: &[String], question: &Question) -> Result<Filte
     }
 }
 
+/// The same of what is asked of the one value at the path.
 #[cycle(place)]
 fn each_at(alloc: Global, path: &[String], list: &[Question]) -> Result<Vec<Filter>, AllocError>
     ensures { IfOk result (λ fs. (ts : Askeds) → ReadEach (forms_of (map form_of list.now)) ts

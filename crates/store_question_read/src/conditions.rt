@@ -160,6 +160,7 @@ pub(crate) fn divided(
     }
 }
 
+/// The items under `$mod` are a divisor and a remainder: `Operand` if they aren't exactly two.
 fn divided_by(
     alloc: Global,
     path: &[&str],
@@ -174,6 +175,8 @@ fn divided_by(
     }
 }
 
+/// The question of `$mod`, with both numbers cut off toward zero. `Operand` if one of them is no number, or has no room
+/// in 64 bits, or if the divisor is 0.
 fn by_parts(
     alloc: Global,
     path: &[&str],

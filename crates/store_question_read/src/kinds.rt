@@ -30,6 +30,7 @@ pub(crate) fn kind_of(value: RawBsonRef<'_>) -> Option<ElementType>
     }
 }
 
+/// The kind that `$type` means by a number. None if there is no number, or no kind has it.
 fn numbered(number: Option<i64>) -> Option<ElementType>
     ensures { result ≡ option_and_then kind_of_number number }
 {

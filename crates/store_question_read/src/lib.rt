@@ -12,3 +12,4 @@ mod words;
 pub use error::QueryError;
 pub use made::keys_of;
 pub use query::{query_of, read_query};
+pub use words::{begins_with_dollar, has_operators};

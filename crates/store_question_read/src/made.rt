@@ -20,6 +20,7 @@ pub(crate) fn pieces(alloc: Global, path: &str) -> Result<Vec<&str>, AllocError>
     path.split('.').collect(alloc)
 }
 
+/// A copy of the keys of a path, which a question can keep. The error is a refused growth.
 fn owned(alloc: Global, pieces: &[&str]) -> Result<Vec<String>, AllocError>
     ensures { IfOk result (λ v. path_of v.items ≡ map (λ x. x.now) pieces.now) }
 {
@@ -58,6 +59,7 @@ fn whole(alloc: Global, path: &[&str], question: Question) -> Result<Question, A
     Ok(Question::Whole(keys, inner))
 }
 
+/// Holds where this question doesn't. The error is a refused growth.
 pub(crate) fn not(alloc: Global, question: Question) -> Result<Question, AllocError>
     ensures { (t : Asked) → Asks question t → IfOk result (λ q. Asks q (no t)) }
 {
@@ -65,18 +67,21 @@ pub(crate) fn not(alloc: Global, question: Question) -> Result<Question, AllocEr
     Ok(Question::Not(inner))
 }
 
+/// Holds where all of these questions do: everywhere, if there are none.
 pub(crate) fn all(list: Vec<Question>) -> Question
     ensures { (ts : Askeds) → AskEach list ts → Asks result (all_of ts) }
 {
     Question::All(list)
 }
 
+/// Holds where one of these questions does at least: nowhere, if there are none.
 pub(crate) fn any(list: Vec<Question>) -> Question
     ensures { (ts : Askeds) → AskEach list ts → Asks result (any_of ts) }
 {
     Question::Any(list)
 }
 
+/// Holds where both questions do. The error is a refused growth.
 fn both(alloc: Global, first: Question, second: Question) -> Result<Question, AllocError>
     ensures { (t u : Asked) → Asks first t → Asks second u
         → IfOk result (λ q. Asks q (Both t u)) }
@@ -87,6 +92,7 @@ fn both(alloc: Global, first: Question, second: Question) -> Result<Question, Al
     Ok(all(list))
 }
 
+/// Holds where one of the two questions does, or both do. The error is a refused growth.
 fn either(alloc: Global, first: Question, second: Question) -> Result<Question, AllocError>
     ensures { (t u : Asked) → Asks first t → Asks second u
         → IfOk result (λ q. Asks q (Either t u)) }
@@ -115,6 +121,7 @@ pub(crate) fn every(list: Vec<Question>) -> Question
     }
 }
 
+/// The value itself, at no path, lies so to this one.
 fn compared(comparison: Comparison, value: RawBson) -> Question
     ensures { (v : Value) → Spells value v → Asks result (Lies comparison v) }
 {
@@ -146,6 +153,7 @@ pub(crate) fn there(alloc: Global, path: &[&str], wanted: bool) -> Result<Questi
     }
 }
 
+/// The value itself, at no path, is of this kind.
 fn of(kind: ElementType) -> Question
     ensures { Asks result (is_of kind) }
 {
@@ -175,6 +183,7 @@ pub(crate) fn is_a_number(alloc: Global, path: &[&str]) -> Result<Question, Allo
     Ok(any(kinds))
 }
 
+/// The value itself, at no path, is an array of so many items.
 fn size(size: u64) -> Question
     ensures { Asks result (has_size size) }
 {
@@ -188,6 +197,7 @@ pub(crate) fn sized(alloc: Global, path: &[&str], count: u64) -> Result<Question
     whole(alloc, path, size(count))
 }
 
+/// The value itself, at no path, is a number that leaves this remainder.
 fn remainder(divisor: i64, remainder: i64) -> Question
     ensures { Asks result (Leaves divisor remainder) }
 {

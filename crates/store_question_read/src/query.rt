@@ -32,6 +32,7 @@ pub fn query_of(alloc: Global, tree: &Value<'_>) -> Result<Question, QueryError>
     }
 }
 
+/// The question of a query's members, all of which have to hold: a query without any is answered by every document.
 #[cycle(query)]
 fn all_entries(alloc: Global, members: &[(&str, Value<'_>)]) -> Result<Question, QueryError>
     ensures { Gives Asks result (query (object (members_view members.now))) }
@@ -40,6 +41,7 @@ fn all_entries(alloc: Global, members: &[(&str, Value<'_>)]) -> Result<Question,
     Ok(made::all(list))
 }
 
+/// One question for each member of a query, in their order. The error is that of the first member at fault.
 #[cycle(query)]
 fn entries(alloc: Global, members: &[(&str, Value<'_>)]) -> Result<Vec<Question>, QueryError>
     ensures { Gives AskEach result (entries_at (members_view members.now)) }
@@ -52,6 +54,8 @@ fn entries(alloc: Global, members: &[(&str, Value<'_>)]) -> Result<Vec<Question>
     Ok(questions)
 }
 
+/// The question of one member of a query: queries that are joined, or what is asked of the path `key`. `$comment`
+/// asks nothing. `Operator` for any other key that begins with `$`.
 #[cycle(query)]
 fn entry(alloc: Global, key: &str, body: &Value<'_>) -> Result<Question, QueryError>
     ensures { Gives Asks result (entry_at key.now (joining_of key.now) (items_at [] key.now Listed.Queries (data_of body.now)) (condition_at key.now (data_of body.now))) }
@@ -118,6 +122,8 @@ fn operators(
     }
 }
 
+/// The operators under a path, all of which have to hold. `Operand`, which names `key`, if there are none, or the
+/// first key is for no operator.
 #[cycle(query)]
 fn all_tests(
     alloc: Global,
@@ -136,6 +142,7 @@ fn all_tests(
     }
 }
 
+/// One question for each operator under a path, in their order. The error is that of the first one at fault.
 #[cycle(query)]
 fn tests(
     alloc: Global,
@@ -152,6 +159,8 @@ fn tests(
     Ok(questions)
 }
 
+/// What the operator `key` with the operand `body` asks of a path. `Operator` if none has this name, and `Operand` if
+/// the operand doesn't belong under it.
 #[cycle(query)]
 fn test(alloc: Global, path: &[&str], key: &str, body: &Value<'_>) -> Result<Question, QueryError>
     ensures { Gives Asks result (test_at (map (λ x. x.now) path.now) key.now (operator_of key.now) (data_of body.now) (λ l. items_at (map (λ x. x.now) path.now) key.now l (data_of body.now)) (operators_at (map (λ x. x.now) path.now) key.now (data_of body.now)) (matching_at (map (λ x. x.now) path.now) key.now (data_of body.now))) }
@@ -222,6 +231,8 @@ fn matching(
     }
 }
 
+/// Asks for an array at the path with an item that answers: operators are asked of the item itself, and other members
+/// are a query, which only an item that is a document or an array can answer.
 #[cycle(query)]
 fn item_matching(
     alloc: Global,
@@ -257,6 +268,7 @@ fn match_alone(
     }
 }
 
+/// What an object under `$all` asks if `$elemMatch` is its only member; else `Operand`, which names `key`.
 #[cycle(query)]
 fn only_match(
     alloc: Global,
@@ -296,6 +308,8 @@ fn items(
     }
 }
 
+/// One question for each item of an array under the operator `key`, in their order. The error is that of the first
+/// item at fault.
 #[cycle(query)]
 fn each(
     alloc: Global,
@@ -314,6 +328,8 @@ fn each(
     Ok(questions)
 }
 
+/// What one item of an array under the operator `key` asks. `Operand`, which names `key`, for an object of operators
+/// among the values of `$in` and `$nin`.
 #[cycle(query)]
 fn one(
     alloc: Global,

@@ -75,6 +75,7 @@ pub(crate) fn plain_value(alloc: Global, key: &str, tree: &Value<'_>) -> Result<
     }
 }
 
+/// Whether a value is a regular expression, which `plain_value` refuses.
 fn is_expression(value: RawBsonRef<'_>) -> bool
     ensures { (v : Tree) → SpellsRawValue (ref_value value.entry) v → result ≡ expression_seen v }
 {
@@ -119,6 +120,7 @@ pub(crate) fn part(alloc: Global, key: &str, tree: &Value<'_>) -> Result<i64, Qu
     }
 }
 
+/// Whether a number stands for true: all but 0 do.
 fn is_not_zero(number: i64) -> bool
     ensures { result ≡ not_zero number }
 {
@@ -128,6 +130,7 @@ fn is_not_zero(number: i64) -> bool
     }
 }
 
+/// The truth that a number stands for. None if there is no number.
 fn truth_by(number: Option<i64>) -> Option<bool>
     ensures { result ≡ option_map not_zero number }
 {

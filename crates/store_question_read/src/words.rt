@@ -44,6 +44,7 @@ pub(crate) enum Listed {
     Kinds,
 }
 
+/// What a key with `$` means as a member of a query. None for all but `$and`, `$or`, `$nor` and `$comment`.
 #[tactic(auto, unfolding(crate::specs::Query::joining_of))]
 pub(crate) fn joining_named(key: &str) -> Option<Joining>
     ensures { result ≡ joining_of key.now }
@@ -57,6 +58,7 @@ pub(crate) fn joining_named(key: &str) -> Option<Joining>
     }
 }
 
+/// The operator that is written so under a path, with its `$`. None if no operator has this name.
 #[tactic(auto, unfolding(crate::specs::Query::operator_of))]
 pub(crate) fn operator_named(key: &str) -> Option<Operator>
     ensures { result ≡ operator_of key.now }
@@ -81,7 +83,8 @@ pub(crate) fn operator_named(key: &str) -> Option<Operator>
     }
 }
 
-pub(crate) fn begins_with_dollar(key: &str) -> bool
+/// Whether a key is, or should be, an operator: it begins with `$`.
+pub fn begins_with_dollar(key: &str) -> bool
     ensures { result ≡ dollar_in key.now }
 {
     match key.as_bytes() {
@@ -107,8 +110,8 @@ pub(crate) fn are_operators(members: &[(&str, Value<'_>)]) -> bool
     }
 }
 
-/// Whether a tree is an object of operators.
-pub(crate) fn has_operators(tree: &Value<'_>) -> bool
+/// Whether a tree is an object of operators: its first key begins with `$`, and marks no value of Extended JSON.
+pub fn has_operators(tree: &Value<'_>) -> bool
     ensures { result ≡ operators_inside (data_of tree.now) }
 {
     match tree {

@@ -31,6 +31,7 @@ pub fn compare_documents(
     Ordering::Equal
 }
 
+/// How a document lies to another by one key, turned if the key descends: by the best value of each at the path.
 fn compare_under(document: RawDocument<'_>, other: RawDocument<'_>, key: &SortKey) -> Ordering
     ensures { OfBody (bytes_of document.entry) (λ d. OfBody (bytes_of other.entry)
         (λ e. result ≡ turned key.now.descending (order (sorted_by (path_of key.now.path.items) key.now.descending d)

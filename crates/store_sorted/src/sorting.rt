@@ -47,6 +47,7 @@ fn sorted_places(
     Ok(places)
 }
 
+/// The places 0, 1 and so on of so many bodies, in the order before sorting. The error is a refused growth.
 fn all_places(alloc: Global, count: usize) -> Result<Vec<usize>, AllocError>
     ensures { (ds : List Members) → length ds ≡ count → IfOk result (λ places. map (document_at ds) places.items ≡ ds) }
 {
@@ -57,6 +58,7 @@ fn all_places(alloc: Global, count: usize) -> Result<Vec<usize>, AllocError>
     Ok(places)
 }
 
+/// How the body at one place lies to that at another by the keys. Where no body is, an empty document is compared.
 fn compare_at(bodies: &[Vec<u8>], first: usize, second: usize, keys: &[SortKey]) -> Ordering
     ensures { (ds : List Members) → AreBodies bodies.now ds
         → result ≡ order_by (keys_of keys.now) (document_at ds first) (document_at ds second) }

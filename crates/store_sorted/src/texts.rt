@@ -23,18 +23,21 @@ pub fn sort_keys_of(alloc: Global, text: &str) -> Result<Vec<SortKey>, AllocErro
     Ok(keys)
 }
 
+/// The parts of a text between its commas, at least one; a part can be empty. The error is a refused growth.
 fn parts_at_commas(alloc: Global, text: &str) -> Result<Vec<&str>, AllocError>
     ensures { IfOk result (λ parts. map (λ x. x.now) parts.items ≡ slice_split (λ b. b == 0x2C) text.now) }
 {
     text.split(',').collect(alloc)
 }
 
+/// The parts of a text between its dots, at least one; a part can be empty. The error is a refused growth.
 fn parts_at_dots(alloc: Global, text: &str) -> Result<Vec<&str>, AllocError>
     ensures { IfOk result (λ parts. map (λ x. x.now) parts.items ≡ path_in text.now) }
 {
     text.split('.').collect(alloc)
 }
 
+/// The key of one part of the text: a path, and behind it `:-1`, `:1` or nothing. The error is a refused growth.
 fn key_of(alloc: Global, text: &str) -> Result<SortKey, AllocError>
     ensures { IfOk result (λ key. ReadsKey text.now (key_in key)) }
 {
@@ -55,6 +58,7 @@ pub fn sort_key_by(alloc: Global, text: &str, descending: bool) -> Result<SortKe
     Ok(SortKey { path, descending })
 }
 
+/// The keys of a path, of which each can be empty: the empty text has one such key. The error is a refused growth.
 fn path_of(alloc: Global, text: &str) -> Result<Vec<String>, AllocError>
     ensures { IfOk result (λ path. path_keys path.items ≡ path_in text.now) }
 {

@@ -126,6 +126,8 @@ fn into_array<'a>(
     }
 }
 
+/// Each item of an array that is a document is looked into under the key; any other item counts as null. The items
+/// after a fault in the bytes count for nothing.
 #[cycle(leading)]
 fn into_items<'a>(
     items: RawDocument<'a>,
@@ -147,6 +149,7 @@ fn into_items<'a>(
     so_far
 }
 
+/// The same of one item. One whose payload has a fault counts for nothing.
 #[cycle(leading)]
 fn into_item<'a>(
     element: &RawElement<'a>,
@@ -187,6 +190,7 @@ fn at_end<'a>(
     }
 }
 
+/// The best of what was met and of the items of an array, as they stand. An empty array counts as undefined.
 fn best_item<'a>(
     items: RawDocument<'a>,
     descending: bool,
@@ -215,6 +219,7 @@ fn has_no_items(items: RawDocument<'_>) -> bool
     items.as_bytes().len() == 5
 }
 
+/// The better of what was met and an item as it stands. One whose payload has a fault counts for nothing.
 fn with_item<'a>(
     element: &RawElement<'a>,
     descending: bool,

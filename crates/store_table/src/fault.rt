@@ -20,6 +20,7 @@ impl From<Error> for Fault {
 
     ghost from_gives = { λ error fault. fault ≡ fault_of error };
 
+    /// Memory if the database ran out of it, and Database for any other error.
     fn from(error: Error) -> Fault {
         match error {
             Error::SqliteFailure(ErrorCode::OutOfMemory) => Fault::Memory,

@@ -7,6 +7,7 @@ use crate::visiting::Visit;
 use std::alloc::{AllocError, Global};
 use std::collections::BTreeSet;
 
+/// Adds a copy of a name, which may be there already. The error is a refused growth.
 fn add_name(names: &mut BTreeSet<Vec<u8>>, alloc: Global, name: &[u8]) -> Result<(), AllocError>
     ensures { IfOk result (λ _. (c : List ℕ) → has_name names.new.keys c ≡ bytes_eq c name.now ||
         has_name names.old.keys c) }

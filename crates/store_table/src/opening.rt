@@ -35,6 +35,7 @@ pub enum OpenError {
     Database,
 }
 
+/// Memory if the database ran out of it, and Database for any other error.
 pub(crate) fn refusal(error: Error) -> OpenError
     ensures other { (result ≡ OpenError.Memory) ⊎ (result ≡ OpenError.Database) }
     ensures memory { error ≡ Error.SqliteFailure ErrorCode.OutOfMemory → result ≡ OpenError.Memory }
@@ -45,6 +46,7 @@ pub(crate) fn refusal(error: Error) -> OpenError
     }
 }
 
+/// Whether the columns place, coll, idkey and body of a row are an integer, a text and two blobs.
 pub(crate) fn has_row_types(row: &Row) -> bool
     ensures { result ≡ is_listed row.now }
 {
@@ -127,6 +129,7 @@ fn make_table<S: Alter>(conn: &mut Connection<S>) -> Result<(), OpenError>
     }
 }
 
+/// Whether the database has a table `documents`, whatever its columns are.
 fn has_table<S: Alter>(conn: &Connection<S>) -> bool
     ensures there { result ≡ is_some (table_named (state S.Store conn.now).now.schema table_name) }
     ensures live { IsLive (state S.Store conn.now) }

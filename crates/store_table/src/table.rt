@@ -371,6 +371,8 @@ impl<S: Alter + Drop> Table<S> {
     }
 }
 
+/// What was found, of a row with the place in its first column and the body, which is copied, in its second. The error
+/// is a refused growth.
 fn found_in(alloc: Global, row: &Row) -> Result<Found, AllocError>
     ensures { IfOk result (λ f. (f.place ≡ int_in (column row.now 0))
         × (f.body.items ≡ bytes_in (column row.now 1))) }

@@ -14,6 +14,7 @@ fn ada(alloc: Global) -> Result<Document, AllocError> {
     Ok(document)
 }
 
+/// A tree is written as BSON, and one of its texts is read from the bytes, without a second tree.
 #[test]
 fn a_document_is_written_and_read_raw(rt: HostRuntime) -> Result<(), Fail> {
     let alloc = rt.alloc();
@@ -23,6 +24,7 @@ fn a_document_is_written_and_read_raw(rt: HostRuntime) -> Result<(), Fail> {
     Ok(())
 }
 
+/// The bytes of a written document are read back as a tree, with both elements.
 #[test]
 fn bytes_become_a_document(rt: HostRuntime) -> Result<(), Fail> {
     let alloc = rt.alloc();

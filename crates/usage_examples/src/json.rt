@@ -4,6 +4,7 @@ use bson_model::Bson;
 use serde_json::Value;
 use std::test::Fail;
 
+/// An `Int64` in canonical mode (MongoDB Extended JSON v2) comes out as a plain number in relaxed mode.
 #[test]
 fn json_in_and_out(rt: HostRuntime) -> Result<(), Fail> {
     let alloc = rt.alloc();

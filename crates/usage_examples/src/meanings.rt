@@ -15,6 +15,7 @@ fn numbers(alloc: Global, first: &str, second: &str) -> Result<Document, AllocEr
     Ok(document)
 }
 
+/// Two documents that differ only in the order of their keys have the same meaning key.
 #[test]
 fn the_order_of_keys_has_no_meaning(rt: HostRuntime) -> Result<(), Fail> {
     let alloc = rt.alloc();
@@ -24,6 +25,7 @@ fn the_order_of_keys_has_no_meaning(rt: HostRuntime) -> Result<(), Fail> {
     Ok(())
 }
 
+/// The empty document's five bytes pass, and five bytes that don't end in 00 are no document.
 #[test]
 fn a_gate_for_bytes(rt: HostRuntime) {
     let answers = (

@@ -37,12 +37,16 @@ impl Binary {
     }
 }
 
+/// Writes the beginning of a shown binary value: `Binary(0x` and the subtype byte in lower-case hexadecimal, without
+/// leading zeros.
 fn write_subtype<W: fmt::Write>(f: &mut fmt::Formatter<W>, subtype: u8) -> fmt::Result
     ensures { WritesOnOk W.write_str_gives f.old result (codes "Binary(0x" ++ digits 16 false subtype) f.new }
 {
     write!(f, "Binary(0x{subtype:x}")
 }
 
+/// Writes the rest of a shown binary value: a comma and a space, the bytes in Base64 with padding (RFC 4648, section
+/// 4), and the closing parenthesis.
 fn write_base64<W: fmt::Write>(f: &mut fmt::Formatter<W>, bytes: &[u8]) -> fmt::Result
     ensures { WritesOnOk W.write_str_gives f.old result (codes ", " ++ encode_of standard bytes.now ++ codes ")") f.new }
 {
@@ -59,6 +63,7 @@ struct Shown<'a> {
 impl<'a> fmt::Display for Shown<'a> {
     ghost output = { λ s. Some (binary_text s.binary.now) };
 
+    /// Prints for instance `Binary(0x0, AAEC)`: the subtype in hexadecimal and the bytes in Base64.
     fn fmt<W: fmt::Write>(&self, f: &mut fmt::Formatter<W>) -> fmt::Result {
         write_subtype(f, u8::from(self.binary.subtype))?;
         write_base64(f, &self.binary.bytes)

@@ -143,6 +143,7 @@ fn can_pad(padding: u8, bytes: &[u8]) -> bool
     padding == 0 || (padding < 8 && !bytes.is_empty())
 }
 
+/// Each byte as a signed number of 8 bits, in two's complement. The error is a refused growth.
 fn signed_bytes(alloc: Global, bytes: &[u8]) -> std::result::Result<Vec<i8>, AllocError>
     ensures { IfOk result (λ v. map (cast_unsigned w8) v.items ≡ bytes.now) }
 {
@@ -153,6 +154,8 @@ fn signed_bytes(alloc: Global, bytes: &[u8]) -> std::result::Result<Vec<i8>, All
     Ok(numbers)
 }
 
+/// The IEEE 754 patterns of 32 bits that each 4 bytes hold, little endian. The caller makes sure that no group of 4 is
+/// incomplete. The error is a refused growth.
 fn patterns(alloc: Global, bytes: &[u8]) -> std::result::Result<Vec<u32>, AllocError>
     requires { length bytes.now % 4 ≡ 0 }
     ensures { IfOk result (λ v. flat_map (to_le_bytes w32) v.items ≡ bytes.now) }
@@ -167,6 +170,8 @@ fn patterns(alloc: Global, bytes: &[u8]) -> std::result::Result<Vec<u32>, AllocE
     Ok(patterns)
 }
 
+/// Appends each number to `bytes` as one byte, in two's complement. After the error, a refused growth, some of them may
+/// have been appended.
 fn put_signed_bytes(numbers: &[i8], bytes: &mut Vec<u8>) -> std::result::Result<(), AllocError>
     ensures { OnOk result (bytes.new.items ≡ bytes.old.items ++ map (cast_unsigned w8) numbers.now) }
 {
@@ -176,6 +181,8 @@ fn put_signed_bytes(numbers: &[i8], bytes: &mut Vec<u8>) -> std::result::Result<
     Ok(())
 }
 
+/// Appends each pattern of 32 bits to `bytes` as 4 bytes, little endian. After the error, a refused growth, some of
+/// them may have been appended.
 fn put_patterns(numbers: &[u32], bytes: &mut Vec<u8>) -> std::result::Result<(), AllocError>
     ensures { OnOk result (bytes.new.items ≡ bytes.old.items ++ flat_map (to_le_bytes w32) numbers.now) }
 {

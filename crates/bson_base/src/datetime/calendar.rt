@@ -19,6 +19,8 @@ pub(crate) fn day_number(year: i32, month: u8, day: u8) -> Option<i64>
     }
 }
 
+/// The day of the Gregorian calendar, with months and days counted from 1. None if the calendar has no such day, or if
+/// the year is outside -9999 to 9999.
 fn date(year: i32, month: u8, day: u8) -> Option<Date>
     ensures year { IfSome result (λ d. d.year ≡ year) }
     ensures month { IfSome result (λ d. d.month ≡ month) }
@@ -31,6 +33,7 @@ fn date(year: i32, month: u8, day: u8) -> Option<Date>
     Date::new(year as i16, month as i8, day as i8).ok()
 }
 
+/// How many days after 1970-01-01 a day is, negative before it.
 fn number_of(date: Date) -> i64
     ensures value { result ≡ epoch_day date }
     ensures bound { IsEpochDay result }
@@ -61,6 +64,7 @@ pub(crate) fn civil_day(number: i64) -> Option<CivilDay>
     })
 }
 
+/// The day that is `number` days after 1970-01-01, or None if it lies outside the years -9999 to 9999.
 fn date_at(number: i64) -> Option<Date>
     ensures at { IfSome result (λ d. epoch_day d ≡ number) }
     ensures found { IsSome result ↔ IsEpochDay number }
@@ -68,6 +72,7 @@ fn date_at(number: i64) -> Option<Date>
     Date::from_unix_epoch_day(number).ok()
 }
 
+/// The year, or None if it is below 0, since a date text has no sign for it (RFC 3339, section 5.6).
 fn year_of(date: Date) -> Option<u32>
     ensures value { IfSome result (λ y. pos y ≡ date.year) }
     ensures found { IsSome result ↔ (pos 0 ≤ℤ date.year) }

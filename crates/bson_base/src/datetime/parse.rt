@@ -7,6 +7,7 @@ ghost use Rattle.bson_base.specs.DateText.{at_end as ended, behind as behind_of,
 
 use super::calendar::day_number;
 
+/// The value of the decimal digit at the front, and what follows it. None if no digit is at the front.
 fn digit(text: &[u8]) -> Option<(u32, &[u8])>
     ensures value { option_map (λ p. (p.0, p.1.now)) result ≡ digit_of text.now }
     ensures bound { IfSome result (λ p. p.0 < 10) }
@@ -19,6 +20,7 @@ fn digit(text: &[u8]) -> Option<(u32, &[u8])>
     }
 }
 
+/// The number that the two decimal digits at the front make, and what follows them. None if there are fewer.
 #[tactic(auto, unfolding(crate::specs::DateText::two_digits))]
 fn two_digits(text: &[u8]) -> Option<(u32, &[u8])>
     ensures value { option_map (λ p. (p.0, p.1.now)) result ≡ two_digits_of text.now }
@@ -29,6 +31,7 @@ fn two_digits(text: &[u8]) -> Option<(u32, &[u8])>
     Some((first * 10 + second, rest))
 }
 
+/// The number that the four decimal digits at the front make, and what follows them. None if there are fewer.
 #[tactic(auto, unfolding(crate::specs::DateText::four_digits))]
 fn four_digits(text: &[u8]) -> Option<(u32, &[u8])>
     ensures value { option_map (λ p. (p.0, p.1.now)) result ≡ four_digits_of text.now }
@@ -147,6 +150,8 @@ fn read_fraction(text: &[u8]) -> Option<(u32, &[u8])>
     }
 }
 
+/// The nanoseconds that the digits after a dot make, of which only the first nine count, and what follows them. None if
+/// there is no digit (RFC 3339, section 5.6, `time-secfrac`).
 fn some_digits(text: &[u8]) -> Option<(u32, &[u8])>
     ensures value { option_map (λ p. (p.0, p.1.now)) result ≡ some_digits_of (digit_run text.now) }
     ensures bound { IfSome result (λ p. p.0 ≤ 1_000_000_000) }
@@ -158,12 +163,15 @@ fn some_digits(text: &[u8]) -> Option<(u32, &[u8])>
     Some((digits_worth(digits), rest))
 }
 
+/// `value` if nothing of the text is left, else None: a date text ends with its offset (RFC 3339, section 5.6).
 fn at_end(value: i64, rest: &[u8]) -> Option<i64>
     ensures { result ≡ ended value rest.now }
 {
     if rest.is_empty() { Some(value) } else { None }
 }
 
+/// The offset in minutes that `hh:mm` means after a `+` (RFC 3339, section 5.6, `time-numoffset`). None if the text is
+/// anything else, or if the hours are over 23 or the minutes over 59.
 fn ahead(text: &[u8]) -> Option<i64>
     ensures value { result ≡ ahead_of text.now }
     ensures bound { IfSome result (IsWithin 1439) }
@@ -172,6 +180,8 @@ fn ahead(text: &[u8]) -> Option<i64>
     at_end(minutes as i64, rest)
 }
 
+/// The offset in minutes, at most 0, that `hh:mm` means after a `-`; `-00:00` counts as UTC (RFC 3339, section 4.3).
+/// None for the same texts as in `ahead`.
 fn late(text: &[u8]) -> Option<i64>
     ensures value { result ≡ late_of text.now }
     ensures bound { IfSome result (IsWithin 1439) }
@@ -198,6 +208,8 @@ fn read_offset(text: &[u8]) -> Option<i64>
     }
 }
 
+/// The seconds since 1970 in UTC, negative before it, of a day numbered from 1970-01-01 and a second of that day, both
+/// in a local time that is `offset` minutes ahead of UTC.
 fn utc_second(day: i64, second: u32, offset: i64) -> i64
     requires day { IsEpochDay day }
     requires second { second < 86400 }
@@ -208,6 +220,7 @@ fn utc_second(day: i64, second: u32, offset: i64) -> i64
     day * 86_400 + second as i64 - offset * 60
 }
 
+/// The nanoseconds since 1970, negative before it, of a second since 1970 and the nanoseconds after that second.
 fn nanoseconds(seconds: i64, nanos: u32) -> i128
     requires seconds { IsWithin 400_000_000_000 seconds }
     requires nanos { nanos ≤ 1_000_000_000 }
@@ -217,6 +230,7 @@ fn nanoseconds(seconds: i64, nanos: u32) -> i128
     seconds as i128 * 1_000_000_000 + nanos as i128
 }
 
+/// The whole milliseconds of nanoseconds since 1970, truncated towards zero, so a moment before 1970 can become later.
 fn milliseconds(nanos: i128) -> i64
     requires { IsWithin 500_000_000_000_000_000_000 nanos }
     ensures { result ≡ int_div nanos (pos 1_000_000) }

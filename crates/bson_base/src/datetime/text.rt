@@ -15,6 +15,7 @@ use crate::plain::write_plainly;
 use std::alloc::Global;
 use std::{fmt, str};
 
+/// Writes ASCII bytes as a text. `fmt::Error` if the formatter's writer fails, or if the bytes aren't UTF-8.
 fn write_bytes<W: fmt::Write>(f: &mut fmt::Formatter<W>, bytes: &[u8]) -> fmt::Result
     ensures { WritesOnOk W.write_str_gives f.old result bytes.now f.new }
 {
@@ -41,6 +42,8 @@ impl fmt::Display for TwoDigits {
     }
 }
 
+/// A number below 100, to be shown with a leading zero if it is below 10, as the fields of a date text are (RFC 3339,
+/// section 5.6).
 fn two(number: u32) -> TwoDigits
     requires { number < 100 }
     ensures { result.number ≡ number }
@@ -58,6 +61,7 @@ struct Fraction {
 impl fmt::Display for Fraction {
     ghost output = { λ n. Some (fraction_text n.millis) };
 
+    /// Prints a dot and one to three digits, or nothing at all for 0 milliseconds.
     fn fmt<W: fmt::Write>(&self, f: &mut fmt::Formatter<W>) -> fmt::Result {
         let millis = self.millis;
         let first = b'0' + (millis / 100) as u8;
@@ -75,6 +79,7 @@ impl fmt::Display for Fraction {
     }
 }
 
+/// Writes a dot and three digits of milliseconds: `first` is the ASCII digit of the hundreds, `digits` the other two.
 fn write_three<W: fmt::Write>(
     f: &mut fmt::Formatter<W>,
     first: u8,
@@ -101,6 +106,7 @@ struct Moment {
 impl fmt::Display for Moment {
     ghost output = { λ m. Some (moment_text m.year m.month m.day m.clock) };
 
+    /// Prints `YYYY-MM-DDThh:mm:ssZ`, with milliseconds before the `Z` if they aren't 0 (RFC 3339, section 5.6).
     fn fmt<W: fmt::Write>(&self, f: &mut fmt::Formatter<W>) -> fmt::Result {
         let (century, year) = (two(self.year / 100), two(self.year % 100));
         let (month, day) = (two(self.month as u32), two(self.day as u32));
@@ -172,12 +178,14 @@ impl DateTime {
     }
 }
 
+/// Writes the date text in UTC (RFC 3339, section 5.6), whatever width, fill or precision the formatter has.
 fn write_moment<W: fmt::Write>(f: &mut fmt::Formatter<W>, moment: Moment) -> fmt::Result
     ensures { WritesStyledOnOk W.write_str_gives f.old result (moment_text moment.year moment.month moment.day moment.clock) f.new }
 {
     write_plainly(f, moment)
 }
 
+/// Writes the date text of milliseconds since 1970, or, outside the years 0000 to 9999, the milliseconds in decimal.
 fn write_date<W: fmt::Write>(f: &mut fmt::Formatter<W>, millis: i64) -> fmt::Result
     ensures { WritesDate W.write_str_gives f.old result millis f.new }
 {

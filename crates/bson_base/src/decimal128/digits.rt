@@ -13,6 +13,7 @@ pub(crate) struct Digits<'a> {
     pub(crate) part: &'a [u8],
 }
 
+/// The digits without leading zeros, of which the last is kept if there is no other digit. No digits stay none.
 fn strip(text: &[u8]) -> &[u8]
     ensures { result.now ≡ stripped text.now }
 {
@@ -47,6 +48,7 @@ impl<'a> Digits<'a> {
         self.whole.len() + self.part.len()
     }
 
+    /// Whether both runs have nothing but ASCII digits. That is so of empty runs.
     pub(crate) fn all_digits(self) -> bool
         ensures { result ≡ are_digits (digits_of self.entry) }
     {

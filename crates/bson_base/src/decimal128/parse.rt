@@ -32,6 +32,8 @@ fn small_value(digits: &[u8]) -> u32
     n
 }
 
+/// The exponent that digits without a minus sign make, plus `READING_BIAS`. `InvalidExponent` if there is no digit, if
+/// there is anything but digits, or if the number is over 32767.
 fn upward(digits: &[u8]) -> Result<u32, ParseError>
     ensures { result ≡ upward_of digits.now }
 {
@@ -46,6 +48,8 @@ fn upward(digits: &[u8]) -> Result<u32, ParseError>
     }
 }
 
+/// The exponent that the digits after a minus sign make, plus `READING_BIAS`. `InvalidExponent` if there is no digit,
+/// if there is anything but digits, or if the number is over 32768.
 fn downward(digits: &[u8]) -> Result<u32, ParseError>
     ensures { result ≡ downward_of digits.now }
 {
@@ -60,6 +64,8 @@ fn downward(digits: &[u8]) -> Result<u32, ParseError>
     }
 }
 
+/// The exponent plus `READING_BIAS`, from what follows the `e`; None means that there is no `e`, and counts as 0.
+/// `EmptyExponent` if nothing follows it, `InvalidExponent` if it is no whole number from -32768 to 32767.
 fn read_exponent(text: Option<&[u8]>) -> Result<u32, ParseError>
     ensures value { result ≡ exponent_of (option_map (λ s. s.now) text.entry) }
     ensures bound { IfOk result (λ x. x < 98304) }
@@ -84,6 +90,8 @@ fn read_coefficient(text: &[u8]) -> Result<(Digits<'_>, usize), ParseError>
     }
 }
 
+/// The digits of a coefficient and the number of them that are after the dot, both unchanged. `InvalidCoefficient` if
+/// there is no digit or anything but digits.
 fn check(digits: Digits<'_>, places: usize) -> Result<(Digits<'_>, usize), ParseError>
     ensures value { result_map (λ p. (digits_of p.0, p.1)) result ≡ checked (digits_of digits.entry) places }
     ensures digits { IfOk result (λ p. are_digits (digits_of p.0) ≡ true) }
@@ -95,6 +103,8 @@ fn check(digits: Digits<'_>, places: usize) -> Result<(Digits<'_>, usize), Parse
     }
 }
 
+/// The first `kept` digits, with an exponent (plus `READING_BIAS`) raised by one for each digit dropped, whichever
+/// these are. `Overflow` if more than 32767 are dropped or the exponent gets over 32767.
 fn lift(digits: Digits<'_>, kept: usize, exponent: u32) -> Shortened<'_>
     requires long { kept < length (digits_of digits) }
     requires all { are_digits (digits_of digits) ≡ true }
@@ -109,6 +119,8 @@ fn lift(digits: Digits<'_>, kept: usize, exponent: u32) -> Shortened<'_>
     Ok((digits.first(kept), exponent + dropped as u32))
 }
 
+/// The same number in its first `kept` digits, with the exponent (plus `READING_BIAS`) raised to match.
+/// `InexactRounding` if a digit other than 0 would be dropped, else the `Overflow` of `lift`.
 #[tactic(auto, unfolding(crate::specs::Decimal::drop_tail))]
 fn drop_tail(digits: Digits<'_>, kept: usize, exponent: u32) -> Shortened<'_>
     requires long { kept < length (digits_of digits) }
@@ -123,6 +135,8 @@ fn drop_tail(digits: Digits<'_>, kept: usize, exponent: u32) -> Shortened<'_>
     lift(digits, kept, exponent)
 }
 
+/// The same number in at most 34 digits, with the exponent (plus `READING_BIAS`) raised by one for each zero dropped.
+/// The errors are those of `drop_tail`.
 fn shorten(digits: Digits<'_>, exponent: u32) -> Shortened<'_>
     requires all { are_digits (digits_of digits) ≡ true }
     requires low { exponent < 98304 }
@@ -135,6 +149,8 @@ fn shorten(digits: Digits<'_>, exponent: u32) -> Shortened<'_>
     drop_tail(digits, DIGITS, exponent)
 }
 
+/// The parts of a decimal with a coefficient of at most 34 digits and an exponent that has the bias 6176 of the 128
+/// bits (IEEE 754-2008, 3.5.2), not that of reading.
 fn finite(negative: bool, coefficient: u128, exponent: u16) -> Parts
     requires coefficient { coefficient < 10 ^ 34 }
     requires exponent { exponent < 12288 }
@@ -166,6 +182,8 @@ fn drop_last(negative: bool, digits: Digits<'_>, missing: usize) -> Result<Parts
     }
 }
 
+/// The decimal of digits whose exponent is below the least: zeros at their end are dropped to raise it, and 0 gets the
+/// least exponent. `Underflow` if fewer digits are there than must be dropped, `InexactRounding` if one isn't 0.
 fn raise(negative: bool, digits: Digits<'_>, exponent: u32) -> Result<Parts, ParseError>
     requires few { length (digits_of digits) ≤ digit_limit }
     requires all { are_digits (digits_of digits) ≡ true }
@@ -194,6 +212,8 @@ fn times_ten(start: u128, before: usize, zeros: usize) -> u128
     n
 }
 
+/// The decimal of digits with `zeros` zeros after them, at the greatest exponent. `Overflow` if that makes more than 34
+/// digits.
 fn append_zeros(negative: bool, digits: Digits<'_>, zeros: usize) -> Result<Parts, ParseError>
     requires few { length (digits_of digits) ≤ digit_limit }
     requires low { zeros < 2 ^ 20 }
@@ -209,6 +229,8 @@ fn append_zeros(negative: bool, digits: Digits<'_>, zeros: usize) -> Result<Part
     }
 }
 
+/// The decimal of digits whose exponent is over the greatest: zeros are appended to lower it, and 0 gets the greatest
+/// exponent. `Overflow` if the digits and zeros are more than 34.
 fn lower(negative: bool, digits: Digits<'_>, exponent: u32) -> Result<Parts, ParseError>
     requires few { length (digits_of digits) ≤ digit_limit }
     requires all { are_digits (digits_of digits) ≡ true }
@@ -224,6 +246,8 @@ fn lower(negative: bool, digits: Digits<'_>, exponent: u32) -> Result<Parts, Par
     }
 }
 
+/// The decimal of at most 34 digits, with an exponent (given plus `READING_BIAS`) brought into -6176 to 6111 if the
+/// value can stay the same. The errors are those of `raise` below that range and of `lower` above it.
 fn in_range(negative: bool, digits: Digits<'_>, exponent: u32) -> Result<Parts, ParseError>
     requires few { length (digits_of digits) ≤ digit_limit }
     requires all { are_digits (digits_of digits) ≡ true }
@@ -240,6 +264,8 @@ fn in_range(negative: bool, digits: Digits<'_>, exponent: u32) -> Result<Parts, 
     }
 }
 
+/// The decimal with exactly the value of digits and an exponent (plus `READING_BIAS`), in at most 34 digits and with an
+/// exponent from -6176 to 6111. The errors are those of `shorten` and of `in_range`.
 fn fit(negative: bool, digits: Digits<'_>, exponent: u32) -> Result<Parts, ParseError>
     requires all { are_digits (digits_of digits) ≡ true }
     requires fits { exponent < 98304 }
@@ -250,6 +276,8 @@ fn fit(negative: bool, digits: Digits<'_>, exponent: u32) -> Result<Parts, Parse
     in_range(negative, digits, exponent)
 }
 
+/// The decimal of digits, the last `places` of them after the dot, with the exponent of the text (plus `READING_BIAS`).
+/// `Underflow` if `places` is over 32767 or the exponent of the last digit below -32768, else the errors of `fit`.
 fn with_places(
     negative: bool,
     exponent: u32,
@@ -267,6 +295,8 @@ fn with_places(
     fit(negative, digits.strip(), exponent - places as u32)
 }
 
+/// The decimal of a text without a sign: digits with at most one dot, and optionally `e` or `E` and an exponent. An
+/// error of the exponent is returned before one of the coefficient, and that before those of `with_places`.
 fn read_number(negative: bool, text: &[u8]) -> Result<Parts, ParseError>
     ensures value { result_map decimal_of_parts result ≡ number_read negative text.now }
     ensures finite { IfOk result IsFinite }
@@ -277,6 +307,8 @@ fn read_number(negative: bool, text: &[u8]) -> Result<Parts, ParseError>
     with_places(negative, exponent, digits, places)
 }
 
+/// The decimal of what follows the sign: `nan`, `snan`, `inf` or `infinity` in any case, or else a number. Any other
+/// text has the errors of `read_number`.
 fn read_unsigned(negative: bool, text: &[u8]) -> Result<Parts, ParseError>
     ensures value { result_map bits_of_parts result ≡ unsigned_read negative text.now }
     ensures packable { IfOk result IsPackable }

@@ -90,6 +90,7 @@ pub fn limited(coefficient: u128) -> u128
     if coefficient < LIMIT { coefficient } else { 0 }
 }
 
+/// The highest of the 128 bits, which is set in a negative decimal (IEEE 754-2008, 3.5.2), and 0 for a positive one.
 fn sign_bit(negative: bool) -> u128
     ensures { result ≡ sign_bit_of negative }
 {

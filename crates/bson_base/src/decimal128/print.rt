@@ -24,6 +24,8 @@ fn zeros(count: usize) -> &'static str
     }
 }
 
+/// Writes digits, the last `places` of them after a dot and at least one digit, if need be a 0, before it. There is no
+/// dot if `places` is 0.
 fn write_dotted<W: fmt::Write>(
     f: &mut fmt::Formatter<W>,
     digits: &str,
@@ -44,6 +46,7 @@ fn write_dotted<W: fmt::Write>(
     }
 }
 
+/// Writes `E`, a sign and the exponent in decimal; `exponent` has the bias 6176. An exponent of 0 is `E+0`.
 fn write_exponent<W: fmt::Write>(f: &mut fmt::Formatter<W>, exponent: usize) -> fmt::Result
     ensures { WritesOnOk W.write_str_gives f.old result (69 ∷ exponent_text exponent) f.new }
 {
@@ -54,6 +57,8 @@ fn write_exponent<W: fmt::Write>(f: &mut fmt::Formatter<W>, exponent: usize) -> 
     }
 }
 
+/// Whether a coefficient of `len` digits is shown without `E`: its exponent (with the bias 6176) is at most 0 and that
+/// of its first digit at least -6.
 fn is_plain(exponent: usize, len: usize) -> bool
     requires { len + exponent < 2 ^ 32 }
     ensures { result ≡ is_plain_at exponent len }
@@ -61,6 +66,8 @@ fn is_plain(exponent: usize, len: usize) -> bool
     exponent <= BIAS && BIAS <= exponent + len + 5
 }
 
+/// Writes one digit, the others after a dot if there are any, and `E` with the exponent of the first digit. `exponent`
+/// is that of the last digit, with the bias 6176.
 fn write_scientific<W: fmt::Write>(
     f: &mut fmt::Formatter<W>,
     digits: &str,
@@ -76,6 +83,7 @@ fn write_scientific<W: fmt::Write>(
     write_exponent(f, exponent + len - 1)
 }
 
+/// Writes all digits of a coefficient, plain or with `E` as `is_plain` says. `exponent` has the bias 6176.
 fn write_number<W: fmt::Write>(
     f: &mut fmt::Formatter<W>,
     digits: &str,
@@ -93,12 +101,15 @@ fn write_number<W: fmt::Write>(
     }
 }
 
+/// The sign of a decimal's text, which a positive one doesn't have. A negative zero has it.
 fn minus_if(negative: bool) -> &'static str
     ensures { result.now ≡ minus_of negative }
 {
     if negative { "-" } else { "" }
 }
 
+/// Writes the sign, if negative, and all digits of the coefficient; `exponent` has the bias 6176. Zeros at the end and
+/// the sign of a zero are kept, so the text tells apart decimals of equal value.
 fn write_finite<W: fmt::Write>(
     f: &mut fmt::Formatter<W>,
     negative: bool,
@@ -122,6 +133,7 @@ impl fmt::Display for Parts {
     }
 }
 
+/// Writes `NaN` for each NaN, whatever its sign, `Infinity` or `-Infinity`, or the text of a finite decimal.
 fn write_parts<W: fmt::Write>(f: &mut fmt::Formatter<W>, parts: Parts) -> fmt::Result
     ensures { WritesOnOk W.write_str_gives f.old result (print (decimal_of_parts parts)) f.new }
 {

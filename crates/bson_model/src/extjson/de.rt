@@ -58,6 +58,7 @@ impl<T: Drop> From<AllocFailed<T>> for Error {
 
     ghost from_gives = { λ _ e. e ≡ memory };
 
+    /// What could not be stored is dropped.
     fn from(failed: AllocFailed<T>) -> Error {
         drop(failed);
         Error::Memory
@@ -69,6 +70,7 @@ impl From<oid::Error> for Error {
 
     ghost from_gives = { λ x e. e ≡ of_object_id x };
 
+    /// `Memory` stays `Memory`; any other fault of an object id becomes `InvalidObjectId`.
     fn from(error: oid::Error) -> Error {
         match error {
             oid::Error::Memory => Error::Memory,
@@ -77,6 +79,7 @@ impl From<oid::Error> for Error {
     }
 }
 
+/// Whether an object is read as a typed value: one reserved key anywhere among its keys is enough. `$scope` is none.
 fn has_reserved(members: &Map<String, Value>) -> bool
     ensures { result ≡ any_reserved (members_view members.now.entries) }
 {
@@ -99,6 +102,8 @@ pub fn integer(n: i64) -> Bson
     }
 }
 
+/// The value of a JSON number outside a wrapper: an Int32 if it fits, else an Int64. `FiniteDouble` if it is no signed
+/// integer of 64 bits, as a double or a larger unsigned integer.
 fn read_number(n: Number) -> Result<Bson>
     ensures { GivesReading view result (whole (as_i64 (number_view n))) }
 {
@@ -141,6 +146,8 @@ fn read(alloc: Global, value: Value, levels: u32) -> Result<Bson>
     }
 }
 
+/// The values of a JSON array, each of which may have `levels` levels. The first element with a fault decides the
+/// error.
 #[cycle(read)]
 fn read_items(alloc: Global, items: Vec<Value>, levels: u32) -> Result<Vec<Bson>>
     ensures { GivesReading (λ v. items_of (map view v.items)) result (items_read (items_view items.items)) }
@@ -152,6 +159,8 @@ fn read_items(alloc: Global, items: Vec<Value>, levels: u32) -> Result<Vec<Bson>
     Ok(values)
 }
 
+/// The document of the members of an object, in the order of their keys; no key of its own counts as reserved. Each
+/// value may have `levels` levels. The first member with a fault decides the error.
 #[cycle(read)]
 fn read_members(alloc: Global, members: Map<String, Value>, levels: u32) -> Result<Document>
     ensures { GivesReading (λ d. content d) result (members_read (members_view members.entries)) }
@@ -186,6 +195,8 @@ fn read_typed(alloc: Global, members: Map<String, Value>, levels: u32) -> Result
     }
 }
 
+/// The scope beside a `$code`, none if it is null. `DeserializationError` if it is neither null nor an object; `Memory`
+/// if `levels` is less than 2, for a scope takes two levels.
 #[cycle(read)]
 fn read_scope(alloc: Global, scope: Value, levels: u32) -> Result<Option<Document>>
     ensures { GivesReading (λ o. option_map (λ d. content d) o) result (scope_of (data_of scope)) }

@@ -48,6 +48,8 @@ impl Bson {
     }
 }
 
+/// The tree of a value and of all values inside it (MongoDB Extended JSON v2, "Conversion table"). `FiniteDouble` if
+/// one of them is a finite double other than the zeros, `Memory` if a growth was refused.
 #[cycle(write)]
 fn write_value(alloc: Global, value: Bson, mode: Mode) -> Result<Value, Error>
     ensures { WritesForm data_of result (write mode (view value)) }
@@ -80,6 +82,7 @@ fn write_value(alloc: Global, value: Bson, mode: Mode) -> Result<Value, Error>
     }
 }
 
+/// The trees of an array's elements, in their order. The errors are those of `write_value`.
 #[cycle(write)]
 fn write_items(alloc: Global, items: Vec<Bson>, mode: Mode) -> Result<Vec<Value>, Error>
     ensures { WritesForm (λ v. items_view v.items) result (items_of mode (trees_of (map view items.items))) }
@@ -91,6 +94,8 @@ fn write_items(alloc: Global, items: Vec<Bson>, mode: Mode) -> Result<Vec<Value>
     Ok(values)
 }
 
+/// The members for a document's pairs, which a `Map` keeps in the order of their keys instead of the document's. The
+/// errors are those of `write_value`.
 #[cycle(write)]
 fn write_members(alloc: Global, document: Document, mode: Mode) -> Result<Map<String, Value>, Error>
     ensures { WritesForm (λ m. members_view m.entries) result (members_written mode (content document) no_members) }
@@ -102,6 +107,8 @@ fn write_members(alloc: Global, document: Document, mode: Mode) -> Result<Map<St
     Ok(members)
 }
 
+/// Puts a member where its key belongs in the order of keys; a value already under that key is dropped. The error is a
+/// refused growth.
 fn put_member(members: &mut Map<String, Value>, key: String, value: Value) -> Result<(), AllocError>
     ensures { OnOk result (members_view members.new.entries ≡ put (string_bytes key) (data_of value) (members_view members.old.entries)) }
 {
@@ -118,12 +125,14 @@ fn wrapped(alloc: Global, key: &str, value: Value) -> Result<Value, AllocError>
     Ok(Value::Object(members))
 }
 
+/// An object of one member whose value is a text. The error is a refused growth.
 fn wrapped_text(alloc: Global, key: &str, text: String) -> Result<Value, AllocError>
     ensures { IfOk result (λ v. data_of v ≡ object (json.member key.now (json.string (string_bytes text)) no_members)) }
 {
     wrapped(alloc, key, Value::String(text))
 }
 
+/// `{"$code": code, "$scope": scope}`. The error is a refused growth.
 fn with_scope(alloc: Global, code: String, scope: Map<String, Value>) -> Result<Value, AllocError>
     ensures { IfOk result (λ v. data_of v ≡ with_scope_of (string_bytes code) (members_view scope.entries)) }
 {
@@ -133,6 +142,8 @@ fn with_scope(alloc: Global, code: String, scope: Map<String, Value>) -> Result<
     Ok(Value::Object(members))
 }
 
+/// Canonical: the decimal digits, with a minus if negative, under `$numberInt`; relaxed: a plain number (MongoDB
+/// Extended JSON v2, "Conversion table"). The error is a refused growth.
 fn write_i32(alloc: Global, number: i32, mode: Mode) -> Result<Value, AllocError>
     ensures { IfOk result (λ v. data_of v ≡ write_integer mode keys.of_int number) }
 {
@@ -142,6 +153,8 @@ fn write_i32(alloc: Global, number: i32, mode: Mode) -> Result<Value, AllocError
     }
 }
 
+/// Canonical: the decimal digits, with a minus if negative, under `$numberLong`; relaxed: a plain number (MongoDB
+/// Extended JSON v2, "Conversion table"). The error is a refused growth.
 fn write_i64(alloc: Global, number: i64, mode: Mode) -> Result<Value, AllocError>
     ensures { IfOk result (λ v. data_of v ≡ write_integer mode keys.of_long number) }
 {
@@ -151,6 +164,8 @@ fn write_i64(alloc: Global, number: i64, mode: Mode) -> Result<Value, AllocError
     }
 }
 
+/// What is under `$numberDouble` for a NaN, an infinity or a zero; None for any other double. A negative zero loses its
+/// sign, and a NaN keeps nothing but its sign.
 fn double_text(double: DoubleBits) -> Option<&'static str>
     ensures { option_map (λ s. s.now) result ≡ double_text_of double.0 }
 {
@@ -166,6 +181,8 @@ fn double_text(double: DoubleBits) -> Option<&'static str>
     }
 }
 
+/// The double under `$numberDouble`, in both modes. `FiniteDouble` if it is finite and not zero, `Memory` if a growth
+/// was refused.
 fn write_double(alloc: Global, double: DoubleBits) -> Result<Value, Error>
     ensures { WritesForm data_of result (double_written double.0) }
 {
@@ -175,18 +192,22 @@ fn write_double(alloc: Global, double: DoubleBits) -> Result<Value, Error>
     }
 }
 
+/// The 24 hexadecimal digits in lower case, under `$oid`. The error is a refused growth.
 fn write_id(alloc: Global, id: ObjectId) -> Result<Value, AllocError>
     ensures { IfOk result (λ v. data_of v ≡ id_of (id_bytes id)) }
 {
     wrapped_text(alloc, "$oid", id.to_hex(alloc)?)
 }
 
+/// The decimal text under `$numberDecimal`, in both modes. The error is a refused growth.
 fn write_decimal(alloc: Global, decimal: Decimal128) -> Result<Value, AllocError>
     ensures { IfOk result (λ v. data_of v ≡ wrapped_text_of keys.of_decimal (decimal_text (decimal_bytes decimal))) }
 {
     wrapped_text(alloc, "$numberDecimal", decimal.to_string(alloc)?)
 }
 
+/// The increment (`i`) and the seconds (`t`), both plain unsigned numbers of 32 bits, under `$timestamp`. The error is
+/// a refused growth.
 fn write_timestamp(alloc: Global, timestamp: Timestamp) -> Result<Value, AllocError>
     ensures { IfOk result (λ v. data_of v ≡ timestamp_of timestamp.time timestamp.increment) }
 {
@@ -196,6 +217,8 @@ fn write_timestamp(alloc: Global, timestamp: Timestamp) -> Result<Value, AllocEr
     wrapped(alloc, "$timestamp", Value::Object(body))
 }
 
+/// The bytes in Base64 with padding (`base64`) and the subtype as two hexadecimal digits in lower case (`subType`),
+/// under `$binary`; a UUID too is written so, never under `$uuid`. The error is a refused growth.
 fn write_binary(alloc: Global, binary: Binary) -> Result<Value, AllocError>
     ensures { IfOk result (λ v. data_of v ≡ binary_of (subtype_byte binary.subtype) binary.bytes.items) }
 {
@@ -207,6 +230,7 @@ fn write_binary(alloc: Global, binary: Binary) -> Result<Value, AllocError>
     wrapped(alloc, "$binary", Value::Object(body))
 }
 
+/// The pattern, and the options sorted by their characters, under `$regularExpression`. The error is a refused growth.
 fn write_regex(alloc: Global, regex: Regex) -> Result<Value, AllocError>
     ensures { IfOk result (λ v. data_of v ≡ regex_of (string_bytes regex.pattern) (string_bytes regex.options)) }
 {
@@ -217,6 +241,8 @@ fn write_regex(alloc: Global, regex: Regex) -> Result<Value, AllocError>
     wrapped(alloc, "$regularExpression", Value::Object(body))
 }
 
+/// The object id (`$id`, itself under `$oid`) and the namespace (`$ref`), under `$dbPointer`. The error is a refused
+/// growth.
 fn write_pointer(alloc: Global, pointer: DbPointer) -> Result<Value, AllocError>
     ensures { IfOk result (λ v. data_of v ≡ pointer_of (string_bytes pointer.namespace) (id_bytes pointer.id)) }
 {
@@ -227,6 +253,8 @@ fn write_pointer(alloc: Global, pointer: DbPointer) -> Result<Value, AllocError>
     wrapped(alloc, "$dbPointer", Value::Object(body))
 }
 
+/// The body of a date that isn't a date text: milliseconds since 1970 in decimal, under `$numberLong`. The error is a
+/// refused growth.
 fn write_millis(alloc: Global, millis: i64) -> Result<Value, AllocError>
     ensures { IfOk result (λ v. data_of v ≡ millis_of_date millis) }
 {
@@ -251,6 +279,8 @@ pub fn date_text(alloc: Global, moment: DateTime) -> Result<String, AllocError>
     }
 }
 
+/// What is under `$date`: a text of RFC 3339 in relaxed mode from 1970 to 9999, else the milliseconds since 1970 under
+/// `$numberLong` (MongoDB Extended JSON v2, "Conversion table"). The error is a refused growth.
 fn date_body(alloc: Global, moment: DateTime, mode: Mode) -> Result<Value, AllocError>
     ensures { IfOk result (λ v. data_of v ≡ body_of mode (millis_of moment)) }
 {
@@ -262,6 +292,7 @@ fn date_body(alloc: Global, moment: DateTime, mode: Mode) -> Result<Value, Alloc
     }
 }
 
+/// A moment under `$date`, in the form that `date_body` chooses. The error is a refused growth.
 fn write_date(alloc: Global, moment: DateTime, mode: Mode) -> Result<Value, AllocError>
     ensures { IfOk result (λ v. data_of v ≡ date_of mode (millis_of moment)) }
 {

@@ -22,6 +22,7 @@ use bson_base::{
 use serde_json::{Map, Number, Value};
 use std::alloc::Global;
 
+/// The text that a tree is; `DeserializationError` if it is anything but a JSON string.
 pub(super) fn text_of(value: Value) -> Result<String>
     ensures { GivesReading (λ t. string_bytes t) result (spec_text (data_of value)) }
 {
@@ -49,6 +50,7 @@ fn single(members: Map<String, Value>, key: &str) -> Result<Value>
     }
 }
 
+/// The body of a tree that is an object with this key alone; `DeserializationError` if it is anything else.
 fn under(value: Value, key: &str) -> Result<Value>
     ensures { GivesReading (λ v. data_of v) result (under_of key.now (data_of value)) }
 {
@@ -79,6 +81,8 @@ fn pair(members: Map<String, Value>, first: &str, second: &str) -> Result<(Value
     }
 }
 
+/// The bodies of a tree that is an object with these two keys alone, the first one below the second in the order of
+/// keys; `DeserializationError` if it is anything else.
 fn both(value: Value, first: &str, second: &str) -> Result<(Value, Value)>
     ensures { GivesReading (λ p. (data_of p.0, data_of p.1)) result (both_of first.now second.now (data_of value)) }
 {
@@ -88,6 +92,8 @@ fn both(value: Value, first: &str, second: &str) -> Result<(Value, Value)>
     }
 }
 
+/// The body of `$oid`: 24 hexadecimal digits in either case. `DeserializationError` if it is no text, `InvalidObjectId`
+/// if the text is no object id.
 fn object_id(value: Value) -> Result<ObjectId>
     ensures { GivesReading (λ i. id_bytes i) result (id_body (data_of value)) }
 {
@@ -95,6 +101,8 @@ fn object_id(value: Value) -> Result<ObjectId>
     Ok(ObjectId::parse_str(&text)?)
 }
 
+/// The body of `$regularExpression`: the texts `options`, which are sorted by their characters, and `pattern`.
+/// `DeserializationError` if it has another form, `Memory` if a growth was refused.
 fn regex(alloc: Global, value: Value) -> Result<Regex>
     ensures { GivesReading (λ r. (string_bytes r.pattern, string_bytes r.options)) result (regex_body (data_of value)) }
 {
@@ -104,6 +112,8 @@ fn regex(alloc: Global, value: Value) -> Result<Regex>
     Ok(Regex::new(alloc, pattern, options)?)
 }
 
+/// The body of `$numberInt`: a text of decimal digits, perhaps after a sign. `DeserializationError` if it is anything
+/// else, also a plain number, or out of the range of 32 signed bits.
 fn int(value: Value) -> Result<i32>
     ensures { GivesReading (λ z. z) result (int_of (data_of value)) }
 {
@@ -111,6 +121,8 @@ fn int(value: Value) -> Result<i32>
     read_int(&text).ok_or(Error::DeserializationError)
 }
 
+/// The body of `$numberLong`: a text of decimal digits, perhaps after a sign. `DeserializationError` if it is anything
+/// else, also a plain number, or out of the range of 64 signed bits.
 fn long(value: Value) -> Result<i64>
     ensures { GivesReading (λ z. z) result (long_of (data_of value)) }
 {
@@ -118,6 +130,8 @@ fn long(value: Value) -> Result<i64>
     read_long(&text).ok_or(Error::DeserializationError)
 }
 
+/// The body of `$numberDouble`: a NaN, an infinity or a zero, as its 64 bits (IEEE 754, binary64). `FiniteDouble` if it
+/// is a numeral other than zero, `DeserializationError` if it is anything else.
 fn double(value: Value) -> Result<u64>
     ensures { GivesReading (λ n. n) result (double_of (data_of value)) }
 {
@@ -125,6 +139,7 @@ fn double(value: Value) -> Result<u64>
     read_double(&text)
 }
 
+/// The body of `$numberDecimal`. `DeserializationError` if it is no text, or none that `Decimal128` reads.
 fn decimal(value: Value) -> Result<Decimal128>
     ensures { GivesReading (λ d. decimal_bytes d) result (decimal_body (data_of value)) }
 {
@@ -134,6 +149,7 @@ fn decimal(value: Value) -> Result<Decimal128>
         .ok_or(Error::DeserializationError)
 }
 
+/// The subtype of a `$binary`: a text of exactly two hexadecimal digits, else `DeserializationError`.
 fn byte(value: Value) -> Result<u8>
     ensures { GivesReading (λ b. b) result (byte_of (data_of value)) }
 {
@@ -141,6 +157,8 @@ fn byte(value: Value) -> Result<u8>
     read_byte(&text).ok_or(Error::DeserializationError)
 }
 
+/// The bytes of a tree that is a text in Base64 with padding (RFC 4648, section 4). `DeserializationError` if it is
+/// none, `Memory` if a growth was refused.
 fn bytes(alloc: Global, value: Value, subtype: BinarySubtype) -> Result<Binary>
     ensures { GivesReading (λ b. binary b.subtype b.bytes.items) result (base64_body subtype (data_of value)) }
 {
@@ -152,6 +170,8 @@ fn bytes(alloc: Global, value: Value, subtype: BinarySubtype) -> Result<Binary>
     }
 }
 
+/// The body of `$binary`: `base64` and `subType`, of which the subtype is judged first. `DeserializationError` if it
+/// has another form, `Memory` if a growth was refused.
 fn binary_value(alloc: Global, value: Value) -> Result<Binary>
     ensures { GivesReading (λ b. binary b.subtype b.bytes.items) result (binary_body (data_of value)) }
 {
@@ -160,6 +180,8 @@ fn binary_value(alloc: Global, value: Value) -> Result<Binary>
     bytes(alloc, base64, subtype)
 }
 
+/// The body of `$uuid`, as 16 bytes of subtype 04: any text that `Uuid::parse_str` reads. `DeserializationError` if it
+/// is none, `Memory` if a growth was refused.
 fn uuid(alloc: Global, value: Value) -> Result<Binary>
     ensures { GivesReading (λ b. binary b.subtype b.bytes.items) result (uuid_body (data_of value)) }
 {
@@ -170,6 +192,7 @@ fn uuid(alloc: Global, value: Value) -> Result<Binary>
     Ok(Binary::from_uuid(alloc, uuid)?)
 }
 
+/// The number in 32 unsigned bits; None for a negative number, a larger one and any double.
 fn u32_from(n: Number) -> Option<u32>
     ensures { result ≡ u32_from (number_view n) }
 {
@@ -181,6 +204,7 @@ fn u32_from(n: Number) -> Option<u32>
     }
 }
 
+/// A part of a `$timestamp`: a plain JSON number that fits 32 unsigned bits, else `DeserializationError`.
 fn unsigned(value: Value) -> Result<u32>
     ensures { GivesReading (λ n. n) result (u32_of (data_of value)) }
 {
@@ -190,6 +214,8 @@ fn unsigned(value: Value) -> Result<u32>
     u32_from(n).ok_or(Error::DeserializationError)
 }
 
+/// The body of `$timestamp`: the increment (`i`) and the seconds (`t`), plain unsigned numbers of 32 bits.
+/// `DeserializationError` if it has another form.
 fn timestamp(value: Value) -> Result<Timestamp>
     ensures { GivesReading (λ t. (t.time, t.increment)) result (timestamp_body (data_of value)) }
 {
@@ -199,6 +225,7 @@ fn timestamp(value: Value) -> Result<Timestamp>
     Ok(Timestamp { time, increment })
 }
 
+/// The moment of a date text (RFC 3339), cut to milliseconds; `DeserializationError` if the text is none.
 fn date_of_text(text: &str) -> Result<DateTime>
     ensures { GivesReading (λ d. millis_of d) result (ok_or_error (date_of text.now)) }
 {
@@ -207,6 +234,8 @@ fn date_of_text(text: &str) -> Result<DateTime>
         .ok_or(Error::DeserializationError)
 }
 
+/// The moment of a plain number of milliseconds since 1970; `DeserializationError` if the number is no signed integer
+/// of 64 bits.
 fn date_of_number(n: Number) -> Result<DateTime>
     ensures { GivesReading (λ d. millis_of d) result (some_or_error (as_i64 (number_view n))) }
 {
@@ -216,6 +245,8 @@ fn date_of_number(n: Number) -> Result<DateTime>
     }
 }
 
+/// The body of `$date`: a date text (RFC 3339), or milliseconds since 1970 as a plain number or under `$numberLong`.
+/// `DeserializationError` if it has another form.
 fn date(value: Value) -> Result<DateTime>
     ensures { GivesReading (λ d. millis_of d) result (read_date_body (data_of value)) }
 {
@@ -230,6 +261,8 @@ fn date(value: Value) -> Result<DateTime>
     }
 }
 
+/// The body of `$dbPointer`: the object id (`$id`, itself under `$oid`), and the namespace (`$ref`). `InvalidObjectId`
+/// if the text under `$oid` is no object id, `DeserializationError` if the body has another form.
 fn pointer(value: Value) -> Result<DbPointer>
     ensures { GivesReading (λ p. (string_bytes p.namespace, id_bytes p.id)) result (pointer_body (data_of value)) }
 {
@@ -239,6 +272,7 @@ fn pointer(value: Value) -> Result<DbPointer>
     Ok(DbPointer::new(namespace, id))
 }
 
+/// Whether the body of `$minKey` or `$maxKey` is right: the integer 1; 1.0 isn't.
 fn is_one(value: Value) -> bool
     ensures { result ≡ one_of (data_of value) }
 {
@@ -248,6 +282,7 @@ fn is_one(value: Value) -> bool
     }
 }
 
+/// Whether the body of `$undefined` is right: it must be true.
 fn is_true(value: Value) -> bool
     ensures { result ≡ true_of (data_of value) }
 {
@@ -268,6 +303,9 @@ fn constant(is_right: bool, constant: Bson) -> Result<Bson>
     }
 }
 
+/// The value of a body under the key of `wrapper`, which is the only key of its object (MongoDB Extended JSON v2,
+/// "Conversion table"). The errors are `InvalidObjectId`, `FiniteDouble`, `Memory` and, for any other form,
+/// `DeserializationError`.
 fn read_body(alloc: Global, wrapper: Wrapper, value: Value) -> Result<Bson>
     ensures { GivesReading view result (scalar_of (body_read (reserved_key wrapper) (data_of value))) }
 {

@@ -46,12 +46,14 @@ fn split_sign(text: &[u8]) -> (bool, &[u8])
     }
 }
 
+/// Whether a text is one or more decimal digits. The empty text isn't.
 fn is_digits(text: &[u8]) -> bool
     ensures { result ≡ digits_alone text.now }
 {
     !text.is_empty() && all_digits(text)
 }
 
+/// Whether what follows an `e` or `E` is one or more digits, perhaps after a sign; true if there was no such letter.
 fn is_exponent(text: Option<&[u8]>) -> bool
     ensures { result ≡ exponent_of (option_map (λ s. s.now) text.entry) }
 {
@@ -61,6 +63,7 @@ fn is_exponent(text: Option<&[u8]>) -> bool
     }
 }
 
+/// The highest of the 64 bits (IEEE 754, binary64): set if `negative`, all others zero.
 fn sign_bit(negative: bool) -> u64
     ensures { result ≡ bit_of negative }
 {
@@ -77,18 +80,21 @@ fn split_dot(text: &[u8]) -> (&[u8], &[u8])
     }
 }
 
+/// Whether nothing but decimal digits is before and after a dot. Either side, or both, may be empty.
 fn both_digits(whole: &[u8], part: &[u8]) -> bool
     ensures { result ≡ are_digits (whole.now ++ part.now) }
 {
     all_digits(whole) && all_digits(part)
 }
 
+/// Whether nothing but the digit 0 is before and after a dot. Either side, or both, may be empty.
 fn both_zeros(whole: &[u8], part: &[u8]) -> bool
     ensures { result ≡ are_zeros (whole.now ++ part.now) }
 {
     all_zeros(whole) && all_zeros(part)
 }
 
+/// Whether nothing but decimal digits is before and after a dot, with at least one of them on either side.
 fn some_digits(whole: &[u8], part: &[u8]) -> bool
     ensures { result ≡ digits_alone (whole.now ++ part.now) }
 {
@@ -109,6 +115,8 @@ fn read_unsigned(negative: bool, text: &[u8]) -> Result<u64>
     read_numeral(negative, front, behind)
 }
 
+/// The 64 bits of a numeral that is zero: `front` is what is between its sign and an `e` or `E`, `behind` what follows
+/// that letter. `DeserializationError` if it is no numeral, `FiniteDouble` if a digit in `front` isn't 0.
 fn read_numeral(negative: bool, front: &[u8], behind: Option<&[u8]>) -> Result<u64>
     ensures { result ≡ numeral_read negative (front.now, option_map (λ s. s.now) behind.entry) }
 {
