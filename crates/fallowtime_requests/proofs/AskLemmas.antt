@@ -1,20 +1,16 @@
 -- The question of a command.
-use Rattle.std.proofs.Common.{◌≡◌, ◌≢◌, ℕ, List, [], ◌∷◌, length, map, Bor, Result, Ok, Err, IfErr, inl, inr, refl, sym, subst}
+use Rattle.std.proofs.Common.{◌≡◌, ℕ, List, [], ◌∷◌, length, map, Bor, Result, Ok, Err, IfErr, inl, inr, refl, sym, subst}
 use Rattle.bson_base.specs.Value.{Members}
 use Rattle.fallowtime_requests.specs.Inputs.{Given, tree, word}
 use Rattle.fallowtime_requests.specs.Reading.{IsUnread, KeepsMaker, Reads, StopsDocument}
 use Rattle.fallowtime_requests.specs.Requests.{Asks, NameAndDocument}
-use Rattle.fallowtime_requests.specs.declared.reading.Layout.{Layout}
 use Rattle.fallowtime_requests.specs.declared.reading.Layout.TheVariants.{Each}
 use Rattle.fallowtime_requests.specs.declared.reading.Question.{Question}
 use Rattle.fallowtime_requests.specs.declared.request.Request.{Request}
-use Rattle.fallowtime_requests.specs.declared.request.Request.TheVariants as request
 use Rattle.fallowtime_requests.specs.declared.stop.Stop.{Stop}
 use Rattle.fallowtime_requests.specs.declared.stop.Stop.TheVariants.{Words, Memory}
-use Rattle.fallowtime_requests.specs.declared.unread.Unread.TheVariants as unread
 use Rattle.fallowtime_texts.specs.declared.made.IdMaker.{IdMaker}
 use Rattle.fallowtime_words.specs.declared.command.Command.{Command}
-use Rattle.fallowtime_words.specs.declared.command.Command.TheVariants as command
 use Rattle.fallowtime_words.specs.declared.table.Argument.TheVariants as argument
 
 -- a request that is answered with each document by itself

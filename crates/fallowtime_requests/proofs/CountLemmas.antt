@@ -3,7 +3,7 @@ use Rattle.std.proofs.Common.{◌≡◌, List, [], ◌∷◌, length, map, refl}
 use Rattle.fallowtime_requests.specs.Inputs.{Given}
 use Rattle.fallowtime_requests.specs.Reading.{AsMany}
 use Rattle.fallowtime_words.specs.declared.table.Argument.{Argument}
-use Rattle.fallowtime_words.specs.declared.table.Argument.TheVariants.{Query, Options}
+use Rattle.fallowtime_words.specs.declared.table.Argument.TheVariants.{Query}
 
 module _ {X : Type 0} (seen : X → Given) where
   pub not_none : (xs : List X) → (length xs ≡ 0 → ⊥) → AsMany [] (map seen xs) → ⊥
@@ -45,9 +45,9 @@ module _ {X : Type 0} (seen : X → Given) where
   not_one_or_two k (x ∷ y ∷ []) none one two all = two refl
   not_one_or_two k (x ∷ y ∷ z ∷ xs) none one two all = all
 
-  pub not_two_or_three : (k l : Argument) (xs : List X) → (AsMany (k ∷ l ∷ Options ∷ []) [] → ⊥) → (AsMany (l ∷ Options ∷ []) [] → ⊥) → (length xs ≡ 2 → ⊥) → (length xs ≡ 3 → ⊥) → AsMany (k ∷ l ∷ Options ∷ []) (map seen xs) → ⊥
-  not_two_or_three k l [] none one two three all = none all
-  not_two_or_three k l (x ∷ []) none one two three all = one all
-  not_two_or_three k l (x ∷ y ∷ []) none one two three all = two refl
-  not_two_or_three k l (x ∷ y ∷ z ∷ []) none one two three all = three refl
-  not_two_or_three k l (x ∷ y ∷ z ∷ v ∷ xs) none one two three all = all
+  pub not_two_or_three : (k l n : Argument) (xs : List X) → (AsMany (k ∷ l ∷ n ∷ []) [] → ⊥) → (AsMany (l ∷ n ∷ []) [] → ⊥) → (length xs ≡ 2 → ⊥) → (length xs ≡ 3 → ⊥) → AsMany (k ∷ l ∷ n ∷ []) (map seen xs) → ⊥
+  not_two_or_three k l n [] none one two three all = none all
+  not_two_or_three k l n (x ∷ []) none one two three all = one all
+  not_two_or_three k l n (x ∷ y ∷ []) none one two three all = two refl
+  not_two_or_three k l n (x ∷ y ∷ z ∷ []) none one two three all = three refl
+  not_two_or_three k l n (x ∷ y ∷ z ∷ v ∷ xs) none one two three all = all

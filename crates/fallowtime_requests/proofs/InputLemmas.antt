@@ -1,5 +1,5 @@
 -- Arguments that are taken one by one, and how many a command has.
-use Rattle.std.proofs.Common.{◌≡◌, ◌<◌, ◌≤◌, ℕ, List, [], ◌∷◌, length, get_or, map, String, inl, Result, Err, refl, ap, subst, sym, ◌∙◌, arith}
+use Rattle.std.proofs.Common.{◌≡◌, ◌<◌, ◌≤◌, List, [], ◌∷◌, length, get_or, map, String, inl, Result, Err, refl, ap, subst, sym, ◌∙◌, arith}
 use Rattle.std.specs.Prelude.{string_bytes}
 use Rattle.std.proofs.lemmas.List.{length-map}
 use Rattle.std.specs.declared.alloc.Global.{Global}
@@ -8,9 +8,8 @@ use Rattle.json.specs.declared.value.Value.{Value as Tree}
 use Rattle.fallowtime_texts.specs.declared.made.IdMaker.{IdMaker}
 use Rattle.fallowtime_words.specs.Commands.{arguments}
 use Rattle.fallowtime_words.specs.declared.command.Command.{Command}
-use Rattle.fallowtime_words.specs.declared.command.Command.TheVariants.{Insert, Put, Replace, Get, Set, Unset, Update, ReplaceOne, Delete, Remove, Find, Count, Import, Export, Collections, Check, Backup, Index, DropIndex, Version, ImportAll, ExportAll, Edit}
+use Rattle.fallowtime_words.specs.declared.command.Command.TheVariants.{Insert, Put, Replace, Get, Set, Unset, Update, ReplaceOne, Delete, FindAndUpdate, FindAndReplace, FindAndDelete, Remove, Find, Count, Distinct, Import, Export, Collections, Check, Backup, Index, DropIndex, Version, ImportAll, ExportAll, Edit}
 use Rattle.fallowtime_words.specs.declared.table.Argument.{Argument}
-use Rattle.fallowtime_words.specs.declared.table.Argument.TheVariants.{Query}
 use Rattle.fallowtime_requests.specs.Inputs.{Given, seen, texts, tree, trees, word}
 use Rattle.fallowtime_requests.specs.Reading.{AsMany, Reads}
 use Rattle.fallowtime_requests.specs.declared.input.Input.{Input}
@@ -105,9 +104,13 @@ few Unset = omega arith
 few Update = omega arith
 few ReplaceOne = omega arith
 few Delete = omega arith
+few FindAndUpdate = omega arith
+few FindAndReplace = omega arith
+few FindAndDelete = omega arith
 few Remove = omega arith
 few Find = omega arith
 few Count = omega arith
+few Distinct = omega arith
 few Import = omega arith
 few Export = omega arith
 few Collections = omega arith
@@ -141,9 +144,13 @@ too_many m Unset gs more = inl (not_as_many Unset gs more, refl)
 too_many m Update gs more = inl (not_as_many Update gs more, refl)
 too_many m ReplaceOne gs more = inl (not_as_many ReplaceOne gs more, refl)
 too_many m Delete gs more = inl (not_as_many Delete gs more, refl)
+too_many m FindAndUpdate gs more = inl (not_as_many FindAndUpdate gs more, refl)
+too_many m FindAndReplace gs more = inl (not_as_many FindAndReplace gs more, refl)
+too_many m FindAndDelete gs more = inl (not_as_many FindAndDelete gs more, refl)
 too_many m Remove gs more = inl (not_as_many Remove gs more, refl)
 too_many m Find gs more = inl (not_as_many Find gs more, refl)
 too_many m Count gs more = inl (not_as_many Count gs more, refl)
+too_many m Distinct gs more = inl (not_as_many Distinct gs more, refl)
 too_many m Import gs more = inl (not_as_many Import gs more, refl)
 too_many m Export gs more = inl (not_as_many Export gs more, refl)
 too_many m Collections gs more = inl (not_as_many Collections gs more, refl)

@@ -2,10 +2,14 @@ mod AskLemmas
 mod CountLemmas
 mod FirstLemmas
 mod InputLemmas
+mod LineLemmas
 mod OptionLemmas
 mod ArrangeLemmas
 mod OwnIdLemmas
+mod PlainLemmas
 mod QueryLemmas
 mod StreamLemmas
 mod TreeLemmas
 mod UpdateLemmas
+mod UpsertLemmas
+mod ChooseLemmas

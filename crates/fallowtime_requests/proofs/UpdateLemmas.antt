@@ -1,10 +1,13 @@
 -- The arguments of an update, taken one by one.
-use Rattle.std.proofs.Common.{◌≡◌, ℕ, Bool, true, false, List, [], ◌∷◌, Some, length, get_or, map, inl, inr, refl, ap, subst, sym}
+use Rattle.std.proofs.Common.{Bor, Result, Ok, Err, Vec, Global, ◌≡◌, ℕ, List, [], ◌∷◌, length, get_or, map, inl, inr, refl, ap, subst, sym}
+use Rattle.std.specs.Prelude.{MatchResult}
+use Rattle.store_update.specs.declared.operation.Step.{Step}
+use Rattle.store_update_read.specs.Outcome.{plans_of}
 use Rattle.store_question.specs.declared.question.Question.{Question}
 use Rattle.store_update.specs.Plan.{Plan}
-use Rattle.fallowtime_requests.specs.Inputs.{Given, many_of}
+use Rattle.fallowtime_requests.specs.Inputs.{Given}
 use Rattle.fallowtime_requests.specs.Reading.{AsMany, IsFirst, IsUnread, StopsOptions}
-use Rattle.fallowtime_requests.specs.Requests.{NameQueryAndUpdate, NameQueryUpdateAndMany}
+use Rattle.fallowtime_requests.specs.Requests.{NameQueryAndUpdate}
 use Rattle.fallowtime_requests.specs.declared.stop.Stop.{Stop}
 use Rattle.fallowtime_texts.specs.declared.made.IdMaker.{IdMaker}
 use Rattle.fallowtime_words.specs.declared.table.Argument.{Argument}
@@ -16,6 +19,9 @@ all = Collection ∷ Selection ∷ Update ∷ Options ∷ []
 
 abbrev pub but_last : List Argument
 but_last = Collection ∷ Selection ∷ Update ∷ []
+
+abbrev Steps : Type 0
+Steps = Vec Step Global
 
 -- ---- what holds of each by itself holds of the list
 
@@ -73,3 +79,12 @@ not_three_or_four of (x ∷ y ∷ []) three four many = many
 not_three_or_four of (x ∷ y ∷ z ∷ []) three four many = three refl
 not_three_or_four of (x ∷ y ∷ z ∷ v ∷ []) three four many = four refl
 not_three_or_four of (x ∷ y ∷ z ∷ v ∷ w ∷ xs) three four many = many
+
+-- ---- no options
+
+-- three of which each can be read, or the first one can't
+pub three_read : {X : Type 0} (of : X → Given) (m : IdMaker) (xs : List X) (a b c : X) (r : Result (Bor (List ℕ) × Question × Steps) Stop) → length xs ≡ 3 → get_or xs 0 a ≡ a → get_or xs 1 b ≡ b → get_or xs 2 c ≡ c
+    → MatchResult r (λ p. NameQueryAndUpdate (of a ∷ of b ∷ of c ∷ []) p.0.now p.1 (plans_of p.2)) (IsFirst m but_last (of a ∷ of b ∷ of c ∷ []))
+    → MatchResult r (λ p. NameQueryAndUpdate (map of xs) p.0.now p.1 (plans_of p.2)) (IsUnread m but_last (map of xs))
+three_read of m xs a b c (Ok p) long first second third h = of_three of (λ gs. NameQueryAndUpdate gs p.0.now p.1 (plans_of p.2)) xs a b c long first second third h
+three_read of m xs a b c (Err s) long first second third h = of_three of (λ gs. IsUnread m but_last gs s) xs a b c long first second third (inr (tt, h))

@@ -1,4 +1,5 @@
--- What `find` returns of documents, as words and as JSON say it: their order, which part of them, and which fields.
+-- What `find` returns of documents, as words and as JSON say it: their order, which part of them, and which fields; and so
+-- of the one that is found and changed. What the values of a line ask for, with such options and those of changes by query.
 use Rattle.std.specs.Prelude.{◌≡◌, ◌⊎◌, ℕ, List, [], ◌∷◌, ◌++◌, codes, Bool, true, false, if◌then◌else◌, Option, Some, None, Result, Ok, Err, unwrap_or, option_map, option_and_then}
 use Rattle.std.specs.Borrow.{Bor}
 use Rattle.std.specs.Str.{bytes_eq}
@@ -6,6 +7,7 @@ use Rattle.bson_base.specs.Value.{Members as Document}
 use Rattle.json.specs.Json.{Json, Items, no_items, item, Members, no_members, member}
 use Rattle.json.specs.Json as json
 use Rattle.fallowtime_texts.specs.declared.made.IdMaker.{IdMaker}
+use Rattle.fallowtime_words.specs.Commands.{allowed}
 use Rattle.fallowtime_words.specs.Options.{IsNumber}
 use Rattle.fallowtime_words.specs.declared.command.Command.{Command}
 use Rattle.fallowtime_words.specs.declared.command.Command.TheVariants as command
@@ -14,10 +16,13 @@ use Rattle.store_sorted.specs.Order.{Key}
 use Rattle.store_sorted.specs.Texts.{ReadsKeys, key_by}
 use Rattle.store_sorted.specs.declared.arrangement.Arrangement.{Arrangement}
 use Rattle.fallowtime_words.specs.declared.words.Words.{Words as Wording}
-use Rattle.fallowtime_requests.specs.Fields.{CanName, IsOfTexts, Marked, TextsNameNone, left_by, left_where, marked_under}
-use Rattle.fallowtime_requests.specs.Inputs.{tree, trees}
+use Rattle.fallowtime_requests.specs.Fields.{CanName, IsOfTexts, Marked, TextsNameNone, left_by, left_where, marked_under, paths_given}
+use Rattle.fallowtime_requests.specs.Inputs.{Given, boolean_of, tree, trees}
+use Rattle.fallowtime_requests.specs.Plain.{are_plainly, have_plain_paths}
 use Rattle.fallowtime_requests.specs.Reading.{Reads}
-use Rattle.fallowtime_requests.specs.Requests.{Asks}
+use Rattle.fallowtime_requests.specs.Requests.{Asks, with_counts, with_many}
+use Rattle.fallowtime_requests.specs.Upserts.{StopsFixed, UpsertingIf, choice_of, names_upsert}
+use Rattle.fallowtime_requests.specs.declared.choosing.Choice.{Choice}
 use Rattle.fallowtime_requests.specs.declared.reading.Layout.{Layout}
 use Rattle.fallowtime_requests.specs.declared.reading.Question.{Question}
 use Rattle.fallowtime_requests.specs.declared.request.Request.{Request}
@@ -27,23 +32,26 @@ use Rattle.fallowtime_requests.specs.declared.stop.Stop.{Stop}
 use Rattle.fallowtime_requests.specs.declared.stop.Stop.TheVariants.{Words, Memory}
 use Rattle.fallowtime_requests.specs.declared.unread.Unread.TheVariants as unread
 
--- the keys of the order, how many are passed over, how many there are at most, and what is left of each
+-- the keys of the order, how many are passed over, how many there are at most, what is left of each, and whether one that
+-- is changed is returned as it is afterwards
 pub record Plan : Type 0 where
   pub keys : List Key
   pub skip : ℕ
   pub limit : Option ℕ
   pub left : Document → Document
+  pub after : Bool
 
 abbrev pub plan_of : Wanted → Plan
-plan_of w = record { keys = keys_of w.arrangement.keys.items; skip = w.arrangement.skip; limit = w.arrangement.limit; left = λ d. left_by w.fields d }
+plan_of w = record { keys = keys_of w.arrangement.keys.items; skip = w.arrangement.skip; limit = w.arrangement.limit; left = λ d. left_by w.fields d; after = w.after }
 
 -- all, as they come, each whole
 abbrev pub whole : Plan
-whole = record { keys = []; skip = 0; limit = None; left = λ d. d }
+whole = record { keys = []; skip = 0; limit = None; left = λ d. d; after = false }
 
--- the request, with what is wanted if it finds documents
+-- the request, with what is wanted if it finds documents, or one that it changes
 abbrev pub with_wanted : Wanted → Request → Request
 with_wanted w (request.Find q was) = request.Find q w
+with_wanted w (request.FindAndChange q was work) = request.FindAndChange q w work
 with_wanted w r = r
 
 -- ---- words
@@ -60,16 +68,33 @@ abbrev pub text_in : Option (Bor (List ℕ)) → Option (List ℕ)
 text_in t = option_map (λ (b : Bor (List ℕ)). b.now) t
 
 -- what the options of a line want
+abbrev pub IsOfOptions : Wording → Wanted → Type 0
+IsOfOptions w a = IsOfNumbers (text_in w.sort) w.options.skip w.options.limit a.arrangement × IsOfTexts (text_in w.fields) (text_in w.without) a.fields × (a.after ≡ w.options.after)
+
+-- and their paths are plain
 abbrev pub IsOfWords : Wording → Wanted → Type 0
-IsOfWords w a = IsOfNumbers (text_in w.sort) w.options.skip w.options.limit a.arrangement × IsOfTexts (text_in w.fields) (text_in w.without) a.fields
+IsOfWords w a = IsOfOptions w a × (are_plainly (keys_of a.arrangement.keys.items) ≡ true) × (have_plain_paths (text_in w.fields) (text_in w.without) ≡ true)
 
 -- the line says it to the request
 abbrev pub WantsByWords : Wording → Request → Request → Type 0
 WantsByWords w r q = (a : Wanted) × IsOfWords w a × (q ≡ with_wanted a r)
 
--- out of memory, or it is reported that the paths of fields can't be read, for they can't name fields
+-- out of memory, or it is reported that the paths of fields can't be read, for they can't name fields, or, if they can, that
+-- options can't be read, for one of the paths isn't plain
+abbrev pub StopsFields : Option (List ℕ) → Option (List ℕ) → Stop → Type 0
+StopsFields fields without s =
+    (s ≡ Memory) ⊎ (TextsNameNone fields without × (s ≡ Words unread.Fields)) ⊎ (CanName (paths_given fields) (paths_given without) × (have_plain_paths fields without ≡ false) × (s ≡ Words unread.Options))
+
+-- each path of the order is plain, or one isn't
+abbrev pub SortsPlainly : Bool → Option (List ℕ) → Type 0
+SortsPlainly is sort = (ks : List Key) × ReadsSort sort ks × (are_plainly ks ≡ is)
+
+abbrev pub StopsSort : Option (List ℕ) → Stop → Type 0
+StopsSort sort s = (s ≡ Memory) ⊎ (SortsPlainly false sort × (s ≡ Words unread.Options))
+
+-- the order can't be read, or, if it can, the fields
 abbrev pub StopsWanted : Wording → Stop → Type 0
-StopsWanted w s = (s ≡ Memory) ⊎ (TextsNameNone (text_in w.fields) (text_in w.without) × (s ≡ Words unread.Fields))
+StopsWanted w s = StopsSort (text_in w.sort) s ⊎ (SortsPlainly true (text_in w.sort) × StopsFields (text_in w.fields) (text_in w.without) s)
 
 -- ---- JSON
 
@@ -95,39 +120,141 @@ abbrev pub IsCount : Json → ℕ → Type 0
 IsCount (json.number t) n = IsNumber t n
 IsCount j n = ⊥
 
+-- whether a document is returned as it is after the change, of a command that changes it
+abbrev pub after_in : Bool → Json → Option Bool
+after_in changes j = if changes then boolean_of j else None
+
 -- one of the options
-abbrev pub PutsOption : Plan → List ℕ → Json → Plan → Type 0
-PutsOption p name j q =
+abbrev pub PutsOption : Bool → Plan → List ℕ → Json → Plan → Type 0
+PutsOption changes p name j q =
     ((name ≡ codes "sort") × ((ks : List Key) × (keys_under j ≡ Some ks) × (q ≡ record p { keys = ks })))
     ⊎ ((name ≡ codes "skip") × ((n : ℕ) × IsCount j n × (q ≡ record p { skip = n })))
     ⊎ ((name ≡ codes "limit") × ((n : ℕ) × IsCount j n × (q ≡ record p { limit = Some n })))
     ⊎ ((name ≡ codes "fields") × ((m : Marked) × (marked_under j ≡ Some m) × CanName m.kept m.left_out × (q ≡ record p { left = λ d. left_where m.kept m.left_out d })))
+    ⊎ ((name ≡ codes "after") × ((after : Bool) × (after_in changes j ≡ Some after) × (q ≡ record p { after = after })))
 
 -- one after the other; a line has no key of an object twice
-abbrev pub PutsOptions : Plan → Members → Plan → Type 0
-PutsOptions p no_members q = q ≡ p
-PutsOptions p (member name j ms) q = (mid : Plan) × PutsOption p name j mid × PutsOptions mid ms q
+abbrev pub PutsOptions : Bool → Plan → Members → Plan → Type 0
+PutsOptions changes p no_members q = q ≡ p
+PutsOptions changes p (member name j ms) q = (mid : Plan) × PutsOption changes p name j mid × PutsOptions changes mid ms q
 
-abbrev pub IsPlan : Json → Plan → Type 0
-IsPlan (json.object ms) q = PutsOptions whole ms q
-IsPlan j q = ⊥
+abbrev pub IsPlan : Bool → Json → Plan → Type 0
+IsPlan changes (json.object ms) q = PutsOptions changes whole ms q
+IsPlan changes j q = ⊥
 
 -- out of memory, or it is reported that options can't be read, for a reason
 abbrev pub StopsOptions : Type 0 → Stop → Type 0
 StopsOptions Fault s = (s ≡ Memory) ⊎ (Fault × (s ≡ Words unread.Options))
 
--- the request that `find` makes of a collection and a query, with what the options say
-abbrev pub AsksWanted : IdMaker → IdMaker → Items → Json → List ℕ → Request → Layout → Type 0
-AsksWanted m n js o name q l = (r : Request) × (w : Wanted) × Asks m n command.Find (trees js) name r l × IsPlan o (plan_of w) × (q ≡ with_wanted w r)
+-- the commands that find documents, and have options
+abbrev pub FindsDocuments : Command → Type 0
+FindsDocuments command.Find = Unit {0}
+FindsDocuments command.FindAndUpdate = Unit {0}
+FindsDocuments command.FindAndReplace = Unit {0}
+FindsDocuments command.FindAndDelete = Unit {0}
+FindsDocuments _ = ⊥
 
--- what a command with the values of a line asks for: `find` has options as a third one
+-- the request that a command makes of its arguments, with what the options say
+abbrev pub AsksWanted : IdMaker → IdMaker → Command → Items → Json → List ℕ → Request → Layout → Type 0
+AsksWanted m n c js o name q l = (r : Request) × (w : Wanted) × Asks m n c (trees js) name r l × IsPlan (allowed c).after o (plan_of w) × (q ≡ with_wanted w r)
+
+-- or why it makes none
+abbrev pub StopsWith : IdMaker → IdMaker → Command → Items → Json → Stop → Type 0
+StopsWith m n c js o s = Reads m n c (trees js) (Err s) ⊎ StopsOptions ((p : Plan) → IsPlan (allowed c).after o p → ⊥) s
+
+-- what a command asks for by two values, or by three and options; or why it asks for nothing
+abbrev pub AsksTwo : IdMaker → IdMaker → Command → Items → List ℕ → Request → Layout → Type 0
+AsksTwo m n c (item a (item b (item o no_items))) name r l = AsksWanted m n c (item a (item b no_items)) o name r l
+AsksTwo m n c js name r l = Asks m n c (trees js) name r l
+
+abbrev pub StopsTwo : IdMaker → IdMaker → Command → Items → Stop → Type 0
+StopsTwo m n c (item a (item b (item o no_items))) s = StopsWith m n c (item a (item b no_items)) o s
+StopsTwo m n c js s = Reads m n c (trees js) (Err s)
+
+abbrev pub ReadsTwo : IdMaker → IdMaker → Command → Items → Result Question Stop → Type 0
+ReadsTwo m n c js (Ok q) = AsksTwo m n c js q.collection.now q.request q.layout
+ReadsTwo m n c js (Err s) = StopsTwo m n c js s
+
+abbrev pub AsksThree : IdMaker → IdMaker → Command → Items → List ℕ → Request → Layout → Type 0
+AsksThree m n c (item a (item b (item d (item o no_items)))) name r l = AsksWanted m n c (item a (item b (item d no_items))) o name r l
+AsksThree m n c js name r l = Asks m n c (trees js) name r l
+
+abbrev pub StopsThree : IdMaker → IdMaker → Command → Items → Stop → Type 0
+StopsThree m n c (item a (item b (item d (item o no_items)))) s = StopsWith m n c (item a (item b (item d no_items))) o s
+StopsThree m n c js s = Reads m n c (trees js) (Err s)
+
+abbrev pub ReadsThree : IdMaker → IdMaker → Command → Items → Result Question Stop → Type 0
+ReadsThree m n c js (Ok q) = AsksThree m n c js q.collection.now q.request q.layout
+ReadsThree m n c js (Err s) = StopsThree m n c js s
+
+-- one of two
+abbrev pub Either : Bool → Type 0 → Type 0 → Type 0
+Either true P Q = P
+Either false P Q = Q
+
+-- a change by query whose options say whether a document is put in if none answers
+abbrev pub AsksChange : Bool → IdMaker → IdMaker → Command → Items → Json → Json → List ℕ → Request → Layout → Type 0
+AsksChange several m n c js q o name r l =
+    (mid : IdMaker) × (was : Request) × (by : Choice) × Asks m mid c (trees js) name was l × (choice_of several o ≡ Some by) × UpsertingIf by.upsert mid n (tree q) (with_many by.many was) r
+
+-- the command takes no id of the maker
+abbrev pub TakesNoId : Command → Type 0
+TakesNoId c = (m n : IdMaker) (gs : List Given) (name : List ℕ) (r : Request) (l : Layout) → Asks m n c gs name r l → n ≡ m
+
+-- its arguments can't be read, or its options, or its query's equality fields can't be set beside each other
+abbrev pub StopsChange : Bool → IdMaker → IdMaker → Command → Items → Json → Json → Stop → Type 0
+StopsChange several m n c js q o s = Reads m n c (trees js) (Err s) ⊎ (((choice_of several o ≡ None) × (s ≡ Words unread.Options)) ⊎ StopsFixed (tree q) s)
+
+-- such options are a fourth value
+abbrev pub AsksByOptions : Bool → IdMaker → IdMaker → Command → Items → List ℕ → Request → Layout → Type 0
+AsksByOptions several m n c (item a (item q (item u (item o no_items)))) name r l =
+    Either (names_upsert o) (AsksChange several m n c (item a (item q (item u no_items))) q o name r l) (Asks m n c (tree a ∷ tree q ∷ tree u ∷ tree o ∷ []) name r l)
+AsksByOptions several m n c js name r l = Asks m n c (trees js) name r l
+
+abbrev pub StopsByOptions : Bool → IdMaker → IdMaker → Command → Items → Stop → Type 0
+StopsByOptions several m n c (item a (item q (item u (item o no_items)))) s =
+    Either (names_upsert o) (StopsChange several m n c (item a (item q (item u no_items))) q o s) (Reads m n c (tree a ∷ tree q ∷ tree u ∷ tree o ∷ []) (Err s))
+StopsByOptions several m n c js s = Reads m n c (trees js) (Err s)
+
+abbrev pub ReadsByOptions : Bool → IdMaker → IdMaker → Command → Items → Result Question Stop → Type 0
+ReadsByOptions several m n c js (Ok q) = AsksByOptions several m n c js q.collection.now q.request q.layout
+ReadsByOptions several m n c js (Err s) = StopsByOptions several m n c js s
+
+-- the options of `distinct`: none, or whether the documents that have a value are counted
+abbrev pub counts_among : Members → Option Bool
+counts_among no_members = Some false
+counts_among (member key j no_members) = if bytes_eq key (codes "count") then boolean_of j else None
+counts_among _ = None
+
+abbrev pub counts_of : Json → Option Bool
+counts_of (json.object ms) = counts_among ms
+counts_of j = None
+
+-- the request that `distinct` makes of a collection, a path and a query, with what the options say
+abbrev pub AsksCounted : IdMaker → IdMaker → Items → Json → List ℕ → Request → Layout → Type 0
+AsksCounted m n js o name q l = (r : Request) × (counts : Bool) × Asks m n command.Distinct (trees js) name r l × (counts_of o ≡ Some counts) × (q ≡ with_counts counts r)
+
+-- what a command with the values of a line asks for: those that find documents have options behind their arguments, and a change by query
+-- and `distinct` have them as a fourth one
 abbrev pub AsksLine : IdMaker → IdMaker → Command → Items → List ℕ → Request → Layout → Type 0
-AsksLine m n command.Find (item c (item q (item o no_items))) name r l = AsksWanted m n (item c (item q no_items)) o name r l
+AsksLine m n command.Find js name r l = AsksTwo m n command.Find js name r l
+AsksLine m n command.FindAndUpdate js name r l = AsksThree m n command.FindAndUpdate js name r l
+AsksLine m n command.FindAndReplace js name r l = AsksThree m n command.FindAndReplace js name r l
+AsksLine m n command.FindAndDelete js name r l = AsksTwo m n command.FindAndDelete js name r l
+AsksLine m n command.Update js name r l = AsksByOptions true m n command.Update js name r l
+AsksLine m n command.ReplaceOne js name r l = AsksByOptions false m n command.ReplaceOne js name r l
+AsksLine m n command.Distinct (item c (item p (item q (item o no_items)))) name r l = AsksCounted m n (item c (item p (item q no_items))) o name r l
 AsksLine m n c js name r l = Asks m n c (trees js) name r l
 
 -- or why it asks for nothing
 abbrev pub StopsLine : IdMaker → IdMaker → Command → Items → Stop → Type 0
-StopsLine m n command.Find (item c (item q (item o no_items))) s = Reads m n command.Find (tree c ∷ tree q ∷ []) (Err s) ⊎ StopsOptions ((p : Plan) → IsPlan o p → ⊥) s
+StopsLine m n command.Find js s = StopsTwo m n command.Find js s
+StopsLine m n command.FindAndUpdate js s = StopsThree m n command.FindAndUpdate js s
+StopsLine m n command.FindAndReplace js s = StopsThree m n command.FindAndReplace js s
+StopsLine m n command.FindAndDelete js s = StopsTwo m n command.FindAndDelete js s
+StopsLine m n command.Update js s = StopsByOptions true m n command.Update js s
+StopsLine m n command.ReplaceOne js s = StopsByOptions false m n command.ReplaceOne js s
+StopsLine m n command.Distinct (item c (item p (item q (item o no_items)))) s = Reads m n command.Distinct (tree c ∷ tree p ∷ tree q ∷ []) (Err s) ⊎ StopsOptions (counts_of o ≡ None) s
 StopsLine m n c js s = Reads m n c (trees js) (Err s)
 
 abbrev pub ReadsLine : IdMaker → IdMaker → Command → Items → Result Question Stop → Type 0

@@ -1,8 +1,10 @@
 pub mod Arranging
 pub mod Fields
 pub mod Inputs
+pub mod Plain
 pub mod Reading
 pub mod Reports
 pub mod Requests
 pub mod Streams
 pub mod Updates
+pub mod Upserts

@@ -1,9 +1,8 @@
 -- Why a command with its arguments asks for nothing: the first argument, in the order of the table of commands, that can't
 -- be read, and why; or there are too few or too many.
-use Rattle.std.specs.Prelude.{◌≡◌, ◌≢◌, ◌⊎◌, ℕ, Bool, List, [], ◌∷◌, Some, None, Ok, Err, Result, Vec}
-use Rattle.std.specs.declared.alloc.Global.{Global}
+use Rattle.std.specs.Prelude.{◌≡◌, ◌≢◌, ◌⊎◌, ℕ, Bool, List, [], ◌∷◌, Some, None, Ok, Err, Result}
 use Rattle.json.specs.Find.{as_array}
-use Rattle.json.specs.Json.{Json, Items, document as tree_of}
+use Rattle.json.specs.Json.{Items, document as tree_of}
 use Rattle.bson_base.specs.Value.{Value, Members, scalar, binary}
 use Rattle.bson_base.specs.declared.spec.BinarySubtype.TheVariants.{Generic}
 use Rattle.bson_json_read.specs.Outcome.{Fails}

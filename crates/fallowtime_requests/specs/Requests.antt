@@ -1,5 +1,5 @@
 -- What a command with its arguments asks of a store.
-use Rattle.std.specs.Prelude.{◌≡◌, ◌⊎◌, ℕ, zero, suc, Bool, true, false, ◌||◌, List, [], ◌∷◌, ◌++◌, Some, None, Ok, Err}
+use Rattle.std.specs.Prelude.{◌≡◌, ◌⊎◌, ℕ, zero, suc, Bool, false, ◌||◌, List, [], ◌∷◌, ◌++◌, Some, None, Ok, Err}
 use Rattle.json.specs.Find.{as_array}
 use Rattle.json.specs.Json.{Json, Items, no_items, item}
 use Rattle.bson_base.specs.Value.{Value, Members, document, look_up, scalar, binary}
@@ -9,8 +9,6 @@ use Rattle.bson_bytes.specs.Writing.{CanBeWritten}
 use Rattle.bson_json_read.specs.Reading.{read, read_top}
 use Rattle.bson_json_read.specs.declared.error.Error.{Error}
 use Rattle.bson_model.specs.View.{content, view}
-use Rattle.bson_model.specs.declared.bson.Bson.{Bson}
-use Rattle.bson_model.specs.declared.document.Document.{Document}
 use Rattle.fallowtime_texts.specs.Made.{identified, maker_after}
 use Rattle.fallowtime_texts.specs.declared.made.IdMaker.{IdMaker}
 use Rattle.fallowtime_words.specs.declared.command.Command.{Command}
@@ -94,6 +92,11 @@ NameAndQuery (c ∷ []) name q = IsText c name × StandsFor q everything
 NameAndQuery (c ∷ g ∷ []) name q = IsText c name × ((a : Asked) × IsAsked g a × StandsFor q a)
 NameAndQuery _ name q = ⊥
 
+abbrev pub NamePathAndQuery : List Given → List ℕ → List (List ℕ) → Question → Type 0
+NamePathAndQuery (c ∷ p ∷ []) name path q = IsText c name × IsPath p path × StandsFor q everything
+NamePathAndQuery (c ∷ p ∷ g ∷ []) name path q = IsText c name × IsPath p path × ((a : Asked) × IsAsked g a × StandsFor q a)
+NamePathAndQuery _ name path q = ⊥
+
 abbrev pub NameQueryAndUpdate : List Given → List ℕ → Question → List Plan → Type 0
 NameQueryAndUpdate (c ∷ g ∷ u ∷ []) name q plans = IsText c name × ((a : Asked) × IsAsked g a × StandsFor q a) × IsUpdate u plans
 NameQueryAndUpdate _ name q plans = ⊥
@@ -114,6 +117,11 @@ abbrev pub NameQueryAndDocument : List Given → List ℕ → Question → Membe
 NameQueryAndDocument (c ∷ g ∷ h ∷ []) name q d = IsText c name × ((a : Asked) × IsAsked g a × StandsFor q a) × IsDocument h d
 NameQueryAndDocument _ name q d = ⊥
 
+-- a collection, and a query that may not be left out
+abbrev pub NameAndSelection : List Given → List ℕ → Question → Type 0
+NameAndSelection (c ∷ g ∷ []) name q = IsText c name × ((a : Asked) × IsAsked g a × StandsFor q a)
+NameAndSelection _ name q = ⊥
+
 abbrev pub NameAndStream : IdMaker → IdMaker → List Given → List ℕ → List ℕ → Type 0
 NameAndStream m n (c ∷ s ∷ []) name bytes = IsText c name × IsStream m n s bytes
 NameAndStream m n _ name bytes = ⊥
@@ -124,7 +132,7 @@ NameAndPath _ name path = ⊥
 
 -- all documents, as they come, each whole
 abbrev pub WantsAll : Wanted → Type 0
-WantsAll w = (keys_of w.arrangement.keys.items ≡ []) × (w.arrangement.skip ≡ 0) × (w.arrangement.limit ≡ None) × (w.fields ≡ None)
+WantsAll w = (keys_of w.arrangement.keys.items ≡ []) × (w.arrangement.skip ≡ 0) × (w.arrangement.limit ≡ None) × (w.fields ≡ None) × (w.after ≡ false)
 
 -- The request for what a command with these arguments asks, of which collection, and how documents are laid out in the
 -- answer; and the maker afterwards: documents that come without an `_id` get its next ones, and no other command takes
@@ -140,9 +148,13 @@ Asks m n command.Unset gs name (request.Unset id key) l = NameIdAndKey gs name (
 Asks m n command.Update gs name (request.Change q (work.Update steps) many) l = NameQueryUpdateAndMany gs name q (plans_of steps) many × (n ≡ m) × (l ≡ layout.Each)
 Asks m n command.ReplaceOne gs name (request.Change q (work.Replace d) many) l = NameQueryAndDocument gs name q (content d) × (many ≡ false) × (n ≡ m) × (l ≡ layout.Each)
 Asks m n command.Delete gs name (request.Change q work.Remove many) l = NameQueryAndMany gs name q many × (n ≡ m) × (l ≡ layout.Each)
+Asks m n command.FindAndUpdate gs name (request.FindAndChange q w (work.Update steps)) l = NameQueryAndUpdate gs name q (plans_of steps) × WantsAll w × (n ≡ m) × (l ≡ layout.Each)
+Asks m n command.FindAndReplace gs name (request.FindAndChange q w (work.Replace d)) l = NameQueryAndDocument gs name q (content d) × WantsAll w × (n ≡ m) × (l ≡ layout.Each)
+Asks m n command.FindAndDelete gs name (request.FindAndChange q w work.Remove) l = NameAndSelection gs name q × WantsAll w × (n ≡ m) × (l ≡ layout.Each)
 Asks m n command.Remove gs name (request.Remove id) l = NameAndId gs name (view id) × (n ≡ m) × (l ≡ layout.Each)
 Asks m n command.Find gs name (request.Find q w) l = NameAndQuery gs name q × WantsAll w × (n ≡ m) × (l ≡ layout.Each)
 Asks m n command.Count gs name (request.Count q) l = NameAndQuery gs name q × (n ≡ m) × (l ≡ layout.Each)
+Asks m n command.Distinct gs name (request.Distinct path q counts) l = NamePathAndQuery gs name (path_of path.items) q × (counts ≡ false) × (n ≡ m) × (l ≡ layout.Each)
 Asks m n command.Import gs name (request.Import stream) l = NameAndStream m n gs name stream.items × (l ≡ layout.Each)
 Asks m n command.Export gs name (request.Find q w) l = NameAlone gs name × StandsFor q everything × WantsAll w × (n ≡ m) × (l ≡ layout.Stream)
 Asks m n command.Index gs name (request.Index path) l = NameAndPath gs name (path_of path.items) × (n ≡ m) × (l ≡ layout.Each)
@@ -154,4 +166,10 @@ Asks m n _ gs _ _ _ = ⊥
 -- with the option of a command line a change by query is one of all documents
 abbrev pub with_many : Bool → Request → Request
 with_many many (request.Change q w all) = request.Change q w (many || all)
+with_many many (request.Upsert q w all o) = request.Upsert q w (many || all) o
 with_many many r = r
+
+-- with the option of a command line different values are counted
+abbrev pub with_counts : Bool → Request → Request
+with_counts counts (request.Distinct path q all) = request.Distinct path q (counts || all)
+with_counts counts r = r

@@ -4,7 +4,6 @@ use Rattle.std.specs.declared.alloc.Global.{Global}
 use Rattle.json.specs.Json.{Json, Items}
 use Rattle.bson_base.specs.Value.{Members, Value, binary, scalar}
 use Rattle.bson_base.specs.declared.spec.BinarySubtype.TheVariants.{Generic}
-use Rattle.bson_json_read.specs.Reading.{read_top}
 use Rattle.bson_json_read.specs.declared.error.Error.{Error}
 use Rattle.fallowtime_texts.specs.declared.made.IdMaker.{IdMaker}
 use Rattle.fallowtime_requests.specs.Requests.{AreWritten, IsFirstUnfit, IsUnfit, IsWritten}

@@ -1,17 +1,19 @@
 //! Which fields of the documents `find` returns.
 
-ghost use Rattle.std.specs.Prelude.{◌≡◌, ◌⊎◌, [], IfOk, MatchResult, None, Some, option_map};
+ghost use Rattle.std.specs.Prelude.{◌≡◌, ◌⊎◌, [], IfOk, MatchResult, None, Some, option_map, true};
 ghost use Rattle.json.specs.Value.{members_view, value_view as data_of};
 ghost use Rattle.store_fields.specs.Texts.{AreNames};
 ghost use Rattle.store_fields.specs.Views.{paths_of as paths_seen};
 ghost use Rattle.store_fields.specs.declared.error.PathsError.TheVariants as paths_errors;
 ghost use Rattle.store_filter.specs.Filters.{path_of as path_view};
 ghost use Rattle.store_sorted.specs.Texts.{path_in as keys_in};
-ghost use Rattle.fallowtime_requests.specs.Arranging.{StopsOptions};
+ghost use Rattle.fallowtime_requests.specs.Arranging.{StopsFields, StopsOptions};
 ghost use Rattle.fallowtime_requests.specs.Fields.{CanName, FieldsAre, GoTogether, IsOfTexts, NamesNone, TextsNameNone, IsWhere, marked_behind, marked_of, marked_under, none_marked, paths_given, stays_in};
+ghost use Rattle.fallowtime_requests.specs.Plain.{have_plain_paths};
 ghost use Rattle.fallowtime_requests.specs.declared.stop.Stop.TheVariants.{Memory, Words};
 ghost use Rattle.fallowtime_requests.specs.declared.unread.Unread.TheVariants as unread;
 
+use crate::plain::both_plain;
 use crate::stop::Stop;
 use crate::unread::Unread;
 use json::Value;
@@ -38,8 +40,8 @@ fn fields_at(alloc: Global, kept: Vec<Vec<String>>) -> Result<Option<Fields>, Al
     Ok(Some(kept_fields(alloc, kept)?))
 }
 
-/// The fields that stay where paths name those that are kept, and those that are left out; none, for all, without paths.
-/// `Mixed` and `Collision` as of `check_mixed`, and `Memory`.
+/// The fields that stay where paths name those that are kept, and those that are left out; none, for all, without
+/// paths. `Mixed` and `Collision` as of `check_mixed`, and `Memory`.
 fn fields_where(
     alloc: Global,
     kept: Vec<Vec<String>>,
@@ -71,20 +73,23 @@ fn paths_given(alloc: Global, text: Option<&str>) -> Result<Vec<Vec<String>>, Pa
     }
 }
 
-/// The fields of the texts of `--fields` and `--without`.
+/// The fields of the texts of `--fields` and `--without`, and whether their paths are plain.
 fn fields_given(
     alloc: Global,
     fields: Option<&str>,
     without: Option<&str>,
-) -> Result<Option<Fields>, PathsError>
+) -> Result<(Option<Fields>, bool), PathsError>
     ensures { MatchResult result
-        (IsOfTexts (option_map (λ t. t.now) fields.entry) (option_map (λ t. t.now) without.entry))
+        (λ p. IsOfTexts (option_map (λ t. t.now) fields.entry) (option_map (λ t. t.now) without.entry) p.0
+        × (p.1 ≡ have_plain_paths (option_map (λ t. t.now) fields.entry) (option_map (λ t. t.now) without.entry)))
         (λ e. (e ≡ paths_errors.Memory)
         ⊎ TextsNameNone (option_map (λ t. t.now) fields.entry) (option_map (λ t. t.now) without.entry)) }
 {
     let kept = paths_given(alloc, fields)?;
     let left_out = paths_given(alloc, without)?;
-    fields_where(alloc, kept, left_out)
+    let plain = both_plain(kept.as_slice(), left_out.as_slice());
+    let fields = fields_where(alloc, kept, left_out)?;
+    Ok((fields, plain))
 }
 
 /// Why paths that can't name fields are refused.
@@ -97,21 +102,27 @@ fn stop_of(error: PathsError, why: Unread) -> Stop
     }
 }
 
-/// The fields of a command line: those of the texts of `--fields` and `--without`. `Words` if their paths can't name
-/// fields.
+/// The fields of a command line: those of the texts of `--fields` and `--without`. `Words` of `Fields` if their paths
+/// can't name fields, or else of `Options` if one of them isn't plain, so that it is likely to be meant as something
+/// else.
 pub(crate) fn fields_of_words(
     alloc: Global,
     fields: Option<&str>,
     without: Option<&str>,
 ) -> Result<Option<Fields>, Stop>
     ensures { MatchResult result
-        (IsOfTexts (option_map (λ t. t.now) fields.entry) (option_map (λ t. t.now) without.entry))
-        (λ s. (s ≡ Memory)
-        ⊎ (TextsNameNone (option_map (λ t. t.now) fields.entry) (option_map (λ t. t.now) without.entry)
-        × (s ≡ Words unread.Fields))) }
+        (λ f. IsOfTexts (option_map (λ t. t.now) fields.entry) (option_map (λ t. t.now) without.entry) f
+        × (have_plain_paths (option_map (λ t. t.now) fields.entry) (option_map (λ t. t.now) without.entry) ≡ true))
+        (StopsFields (option_map (λ t. t.now) fields.entry) (option_map (λ t. t.now) without.entry)) }
 {
     match fields_given(alloc, fields, without) {
-        Ok(fields) => Ok(fields),
+        Ok((fields, plain)) => {
+            if plain {
+                Ok(fields)
+            } else {
+                Err(Stop::Words(Unread::Options))
+            }
+        }
         Err(error) => Err(stop_of(error, Unread::Fields)),
     }
 }
@@ -183,8 +194,8 @@ fn fields_named(alloc: Global, named: Named) -> Result<Option<Fields>, PathsErro
     fields_where(alloc, kept, left_out)
 }
 
-/// The fields that an object of paths says: 1 or true at a path that is kept, 0 or false at one that is left out. `Words`
-/// if it is no such object, or if the paths can't name fields.
+/// The fields that an object of paths says: 1 or true at a path that is kept, 0 or false at one that is left out.
+/// `Words` if it is no such object, or if the paths can't name fields.
 pub(crate) fn fields_in(alloc: Global, value: &Value<'_>) -> Result<Option<Fields>, Stop>
     ensures { MatchResult result (FieldsAre (data_of value.now)) (StopsOptions (NamesNone (data_of value.now))) }
 {

@@ -3,20 +3,25 @@
 #![tactic(auto)]
 
 mod arranging;
+mod choosing;
+mod counting;
 mod fields;
 mod input;
 mod options;
 mod parts;
+mod plain;
 mod reading;
 mod request;
 mod stop;
 mod stream;
 mod unread;
 mod updates;
+mod upserts;
 
 pub use arranging::{question_of_line, want, wanted_of_words};
 pub use reading::{Layout, Question, ask_for_all, question_of_items, question_of_words};
-pub use request::{Request, Wanted, Work};
+pub use request::{Otherwise, Request, Wanted, Work};
 pub use stop::Stop;
 pub use stream::items_of;
 pub use unread::Unread;
+pub use upserts::{has_other_id, upsert_by_words};

@@ -11,7 +11,7 @@ use crate::unread::Unread;
 use json::Value;
 
 /// The truth value that a value is, if it is one.
-fn boolean_of(value: &Value<'_>) -> Option<bool>
+pub(crate) fn boolean_of(value: &Value<'_>) -> Option<bool>
     ensures { result ≡ boolean_of (data_of value.now) }
 {
     match value {

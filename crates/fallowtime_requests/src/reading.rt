@@ -6,7 +6,7 @@ ghost use Rattle.bson_model.specs.View.{content, view};
 ghost use Rattle.json.specs.Value.{items_view};
 ghost use Rattle.fallowtime_requests.specs.Inputs.{seen, texts, trees};
 ghost use Rattle.fallowtime_requests.specs.Reading.{IsUnread, KeepsMaker, Reads};
-ghost use Rattle.fallowtime_requests.specs.Requests.{NameAlone, NameAndDocument, NameAndId, NameAndPath, NameAndQuery, NameAndStream, NameIdAndKey, NameIdKeyAndValue, NameQueryAndDocument, NameQueryAndMany, NameQueryUpdateAndMany, everything};
+ghost use Rattle.fallowtime_requests.specs.Requests.{NameAlone, NameAndDocument, NameAndId, NameAndPath, NameAndQuery, NameAndSelection, NameAndStream, NameIdAndKey, NameIdKeyAndValue, NamePathAndQuery, NameQueryAndDocument, NameQueryAndMany, NameQueryAndUpdate, NameQueryUpdateAndMany, everything};
 ghost use Rattle.fallowtime_texts.specs.declared.made.IdMaker.{IdMaker as Maker};
 ghost use Rattle.fallowtime_words.specs.declared.command.Command.TheVariants as commands;
 ghost use Rattle.fallowtime_words.specs.declared.table.Argument.TheVariants as argument;
@@ -198,6 +198,30 @@ fn with_query<'w>(
     }
 }
 
+/// A collection, a path, and the question of the query, if there is one.
+fn with_path_and_query<'w>(
+    alloc: Global,
+    arguments: &[Input<'_, 'w>],
+    scratch: &mut Scratch,
+) -> Result<(&'w str, Vec<String>, store_question::Question), Stop>
+    ensures { (m : Maker) → MatchResult result
+        (λ p. NamePathAndQuery (map seen arguments.now) p.0.now (path_view p.1.items) p.2)
+        (IsUnread m (argument.Collection ∷ argument.IndexPath ∷ argument.Query ∷ []) (map seen arguments.now)) }
+{
+    match arguments {
+        [name, path] => {
+            let name = collection_of(*name)?;
+            Ok((name, path_of(alloc, *path)?, ask_for_all(alloc)))
+        }
+        [name, path, query] => {
+            let name = collection_of(*name)?;
+            let path = path_of(alloc, *path)?;
+            Ok((name, path, query_in(alloc, *query, scratch)?))
+        }
+        _ => Err(Stop::Words(Unread::Command)),
+    }
+}
+
 /// A collection, the question of the query, the steps of the update, and whether all documents are meant.
 fn with_update<'w>(
     alloc: Global,
@@ -268,8 +292,45 @@ fn with_replacement<'w>(
     }
 }
 
+/// A collection, the question of the query, and the steps of the update.
+fn with_steps<'w>(
+    alloc: Global,
+    arguments: &[Input<'_, 'w>],
+    scratch: &mut Scratch,
+) -> Result<(&'w str, store_question::Question, Vec<Step>), Stop>
+    ensures { (m : Maker) → MatchResult result
+        (λ p. NameQueryAndUpdate (map seen arguments.now) p.0.now p.1 (plans_of p.2))
+        (IsUnread m (argument.Collection ∷ argument.Selection ∷ argument.Update ∷ [])
+        (map seen arguments.now)) }
+{
+    match arguments {
+        [name, query, update] => parts_of(alloc, *name, *query, *update, scratch),
+        _ => Err(Stop::Words(Unread::Command)),
+    }
+}
+
+/// A collection, and the question of the query.
+fn with_question<'w>(
+    alloc: Global,
+    arguments: &[Input<'_, 'w>],
+    scratch: &mut Scratch,
+) -> Result<(&'w str, store_question::Question), Stop>
+    ensures { (m : Maker) → MatchResult result
+        (λ p. NameAndSelection (map seen arguments.now) p.0.now p.1)
+        (IsUnread m (argument.Collection ∷ argument.Selection ∷ []) (map seen arguments.now)) }
+{
+    match arguments {
+        [name, query] => {
+            let name = collection_of(*name)?;
+            let question = query_in(alloc, *query, scratch)?;
+            Ok((name, question))
+        }
+        _ => Err(Stop::Words(Unread::Command)),
+    }
+}
+
 /// A copy of the `_id` of a document that has one.
-fn own_id(alloc: Global, document: &Document) -> Result<Bson, AllocError>
+pub(crate) fn own_id(alloc: Global, document: &Document) -> Result<Bson, AllocError>
     requires { has_key id_key (content document.now) ≡ true }
     ensures { IfOk result (λ id. look_up id_key (content document.now) ≡ Some (view id)) }
 {
@@ -384,6 +445,48 @@ fn delete<'w>(
     Ok(plain(collection, Request::Change(question, Work::Remove, many)))
 }
 
+fn find_and_update<'w>(
+    alloc: Global,
+    arguments: &[Input<'_, 'w>],
+    scratch: &mut Scratch,
+) -> Result<Question<'w>, Stop>
+    ensures { (m : Maker) → Reads m m commands.FindAndUpdate (map seen arguments.now) result }
+{
+    let (collection, question, steps) = with_steps(alloc, arguments, scratch)?;
+    let work = Work::Update(steps);
+    Ok(plain(
+        collection,
+        Request::FindAndChange(question, all_of(alloc), work),
+    ))
+}
+
+fn find_and_replace<'w>(
+    alloc: Global,
+    arguments: &[Input<'_, 'w>],
+    scratch: &mut Scratch,
+) -> Result<Question<'w>, Stop>
+    ensures { (m : Maker) → Reads m m commands.FindAndReplace (map seen arguments.now) result }
+{
+    let (collection, question, document) = with_replacement(alloc, arguments, scratch)?;
+    let work = Work::Replace(document);
+    Ok(plain(
+        collection,
+        Request::FindAndChange(question, all_of(alloc), work),
+    ))
+}
+
+fn find_and_delete<'w>(
+    alloc: Global,
+    arguments: &[Input<'_, 'w>],
+    scratch: &mut Scratch,
+) -> Result<Question<'w>, Stop>
+    ensures { (m : Maker) → Reads m m commands.FindAndDelete (map seen arguments.now) result }
+{
+    let (collection, question) = with_question(alloc, arguments, scratch)?;
+    let request = Request::FindAndChange(question, all_of(alloc), Work::Remove);
+    Ok(plain(collection, request))
+}
+
 fn remove<'w>(
     alloc: Global,
     arguments: &[Input<'_, 'w>],
@@ -415,6 +518,17 @@ fn count<'w>(
 {
     let (collection, query) = with_query(alloc, arguments, scratch)?;
     Ok(plain(collection, Request::Count(query)))
+}
+
+fn distinct<'w>(
+    alloc: Global,
+    arguments: &[Input<'_, 'w>],
+    scratch: &mut Scratch,
+) -> Result<Question<'w>, Stop>
+    ensures { (m : Maker) → Reads m m commands.Distinct (map seen arguments.now) result }
+{
+    let (collection, path, query) = with_path_and_query(alloc, arguments, scratch)?;
+    Ok(plain(collection, Request::Distinct(path, query, false)))
 }
 
 fn import<'w>(
@@ -498,9 +612,13 @@ fn question_of<'w>(
         Command::Update => update(alloc, arguments, scratch),
         Command::ReplaceOne => replace_one(alloc, arguments, scratch),
         Command::Delete => delete(alloc, arguments, scratch),
+        Command::FindAndUpdate => find_and_update(alloc, arguments, scratch),
+        Command::FindAndReplace => find_and_replace(alloc, arguments, scratch),
+        Command::FindAndDelete => find_and_delete(alloc, arguments, scratch),
         Command::Remove => remove(alloc, arguments, scratch),
         Command::Find => find(alloc, arguments, scratch),
         Command::Count => count(alloc, arguments, scratch),
+        Command::Distinct => distinct(alloc, arguments, scratch),
         Command::Import => import(alloc, arguments, maker),
         Command::Export => export(alloc, arguments),
         Command::Index => index(alloc, arguments),

@@ -4,7 +4,7 @@ use bson_model::{Bson, Document};
 use store_fields::Fields;
 use store_question::Question;
 use store_sorted::Arrangement;
-use store_update::Step;
+use store_update::{Step, UpdateError};
 
 /// What becomes of each document that a change by query means.
 #[derive(Drop)]
@@ -17,6 +17,15 @@ pub enum Work {
     Remove,
 }
 
+/// What becomes of a change by query that no document answers.
+#[derive(Drop)]
+pub enum Otherwise {
+    /// A document is put in, which has this `_id`.
+    Insert(Bson, Document),
+    /// It is refused: why no document is made of the query's equality fields.
+    Refuse(UpdateError),
+}
+
 /// What is returned of the documents that are found.
 #[derive(Drop)]
 pub struct Wanted {
@@ -24,6 +33,8 @@ pub struct Wanted {
     pub arrangement: Arrangement,
     /// Which fields of each of them, if not all.
     pub fields: Option<Fields>,
+    /// Whether one that is changed is returned as it is afterwards; else as it was before.
+    pub after: bool,
 }
 
 /// What is asked of one collection, or, with `Collections` and `Check`, of all, with every text of it read.
@@ -43,12 +54,18 @@ pub enum Request<'w> {
     Unset(Bson, &'w str),
     /// To change the documents that answer a question: all of them, if so, or else the first.
     Change(Question, Work, bool),
+    /// The same, and what is done if no document answers.
+    Upsert(Question, Work, bool, Otherwise),
     /// To remove the document with an `_id`.
     Remove(Bson),
     /// The documents that answer a question: in an order, of that a part, and of each the fields that are wanted.
     Find(Question, Wanted),
+    /// To change the first of the documents that are found so, and to return it.
+    FindAndChange(Question, Wanted, Work),
     /// How many documents answer a question.
     Count(Question),
+    /// The different values at a path of the documents that answer a question; if so, with how many have each.
+    Distinct(Vec<String>, Question, bool),
     /// To put in the documents of a stream of BSON, all or none.
     Import(Vec<u8>),
     /// To make an index on a path.
@@ -63,7 +80,7 @@ pub enum Request<'w> {
 
 impl<'w> Request<'w> {
     ghost use Rattle.std.specs.Prelude.{◌≡◌};
-    ghost use Rattle.fallowtime_requests.specs.Requests.{with_many};
+    ghost use Rattle.fallowtime_requests.specs.Requests.{with_counts, with_many};
 
     /// The request with the option `--many`, if that is given: a change by query is then one of all documents that
     /// answer.
@@ -72,6 +89,21 @@ impl<'w> Request<'w> {
     {
         match self {
             Request::Change(question, work, all) => Request::Change(question, work, many || all),
+            Request::Upsert(question, work, all, otherwise) => {
+                Request::Upsert(question, work, many || all, otherwise)
+            }
+            other => other,
+        }
+    }
+
+    /// The request with the option `--count`, if that is given: different values are then counted.
+    pub fn with_counts(self, counts: bool) -> Request<'w>
+        ensures { result ≡ with_counts counts self.entry }
+    {
+        match self {
+            Request::Distinct(path, question, all) => {
+                Request::Distinct(path, question, counts || all)
+            }
             other => other,
         }
     }

@@ -30,6 +30,8 @@ pub enum Unread {
     Query(QueryError),
     /// It is no update.
     Update(ReadError),
+    /// It is a query whose equality fields can't be set beside each other.
+    Equalities(ReadError),
     /// It is no object of the options that the command has.
     Options,
     /// The paths of `--fields` and `--without` can't name fields: a key is empty or begins with `$`, one path is the
@@ -173,6 +175,10 @@ impl Unread {
             }
             Unread::Update(error) => {
                 line.push_str("update")?;
+                push_update_error(line, error)
+            }
+            Unread::Equalities(error) => {
+                line.push_str("query")?;
                 push_update_error(line, error)
             }
         }

@@ -52,7 +52,7 @@ fn undated(alloc: Global, tree: &Value<'_>) -> Result<Vec<Step>, ReadError>
 }
 
 /// The byte at which a text is seen to be no JSON.
-fn fault_in(text: &str, scratch: &mut Scratch) -> Result<usize, AllocError> {
+pub(crate) fn fault_in(text: &str, scratch: &mut Scratch) -> Result<usize, AllocError> {
     let mut reader = Reader::new(text, scratch)?;
     let _passed = reader.skip_value(MAX_DEPTH);
     Ok(reader.offset())

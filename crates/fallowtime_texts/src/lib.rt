@@ -10,4 +10,4 @@ mod printed;
 pub use ids::id_of_word;
 pub use lines::{Taken, read_lines};
 pub use made::{IdMaker, with_front_id, with_id};
-pub use printed::{PrintFault, text_of_body};
+pub use printed::{PrintFault, text_of_body, text_of_value};

@@ -1,21 +1,21 @@
 //! Stored documents as texts.
 
-ghost use Rattle.std.specs.Prelude.{◌≡◌, ℕ, true, List, Err, string_bytes, MatchResult};
+ghost use Rattle.std.specs.Prelude.{◌≡◌, ℕ, true, IfOk, List, Err, option_map, string_bytes, MatchResult};
 ghost use Rattle.bson_base.specs.Value.{Members};
 ghost use Rattle.bson_bytes.specs.Encode.{encode};
 ghost use Rattle.bson_bytes.specs.Spells.{Means};
-ghost use Rattle.bson_meaning.specs.JsonReserved.{has_reserved};
-ghost use Rattle.bson_model.specs.View.{content};
+ghost use Rattle.bson_meaning.specs.JsonReserved.{has_reserved, reserved_path_below as path_below};
+ghost use Rattle.bson_model.specs.View.{content, view};
 ghost use Rattle.store_model.specs.State.{IsKept};
-ghost use Rattle.fallowtime_texts.specs.Printed.{PrintsDocument};
+ghost use Rattle.fallowtime_texts.specs.Printed.{PrintsDocument, PrintsValue, holding as held_by};
 ghost use Rattle.fallowtime_texts.specs.declared.printed.PrintFault.TheVariants.{Memory};
 
-use bson_json::{Style, Unwritten, write_raw};
+use bson_json::{Style, Unwritten, write_raw, write_value};
 use bson_meaning::reserved_path_below;
-use bson_model::Document;
 use bson_model::extjson::Mode;
+use bson_model::{Bson, Document};
 use bson_raw::{ErrorKind, RawDocument};
-use std::alloc::Global;
+use std::alloc::{AllocError, Global};
 
 /// Why a stored document has no text.
 #[derive(Debug, Drop)]
@@ -88,5 +88,45 @@ pub fn text_of_body(
         Ok(()) => Ok(()),
         Err(Unwritten::Memory) => Err(PrintFault::Memory),
         Err(Unwritten::Unseen) => Err(fault_of(alloc, body)),
+    }
+}
+
+/// The document `{"value":V}`.
+fn holding(alloc: Global, value: &Bson) -> Result<Document, AllocError>
+    ensures { IfOk result (λ d. content d ≡ held_by (view value.now)) }
+{
+    let mut document = Document::new(alloc);
+    drop(document.insert(String::from_str(alloc, "value")?, value.try_clone(alloc)?)?);
+    Ok(document)
+}
+
+/// The path to the first reserved key in a value that stands under the key `value`, if there is one.
+fn reserved_in(alloc: Global, value: &Bson) -> Result<Option<String>, AllocError>
+    ensures { IfOk result (λ o. option_map string_bytes o ≡ path_below (held_by (view value.now))) }
+{
+    let document = holding(alloc, value)?;
+    reserved_path_below(alloc, &document)
+}
+
+/// Replaces what `text` held by the text of a value in Extended JSON, and uses its room again. After an error `text` may
+/// hold anything.
+///
+/// `ReservedKey` if a document in the value, or the value itself, has a key such as `$oid`, with the path to the first
+/// one behind `value`, `Memory` if a growth was refused.
+pub fn text_of_value(
+    alloc: Global,
+    value: &Bson,
+    mode: Mode,
+    text: &mut String,
+) -> Result<(), PrintFault>
+    ensures { PrintsValue mode (view value.now) (string_bytes text.new) result }
+{
+    match reserved_in(alloc, value) {
+        Ok(Some(path)) => Err(PrintFault::ReservedKey(path)),
+        Ok(None) => match write_value(alloc, value, mode, text) {
+            Ok(()) => Ok(()),
+            Err(_) => Err(PrintFault::Memory),
+        },
+        Err(_) => Err(PrintFault::Memory),
     }
 }

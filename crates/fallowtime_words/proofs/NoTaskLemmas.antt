@@ -1,23 +1,23 @@
 -- What there is no task for, at each exit.
-use Rattle.std.proofs.Common.{◌≡◌, ◌↔◌, ℕ, List, ◌∷◌, Option, Some, None, MatchOption, option_map, map, String, Global, string_bytes, sym, ◌∙◌, ap, subst}
+use Rattle.std.proofs.Common.{◌≡◌, ◌↔◌, ℕ, Bool, List, ◌∷◌, Option, Some, None, MatchOption, option_map, map, String, Global, string_bytes, sym, ◌∙◌, ap, subst}
 use Rattle.fallowtime_words.specs.Commands.{command_name}
-use Rattle.fallowtime_words.specs.Options.{AreOptions, OnlyWait}
-use Rattle.fallowtime_words.specs.Words.{Asked, line, session, HasRest, Wait, IsTask, asked_of}
+use Rattle.fallowtime_words.specs.Options.{AreOptions, IsOfSession}
+use Rattle.fallowtime_words.specs.Words.{Asked, line, session, HasRest, AreOfSession, IsTask, asked_of}
 use Rattle.fallowtime_words.specs.declared.command.Command.{Command}
 use Rattle.fallowtime_words.specs.declared.options.Options.{Options}
 use Rattle.fallowtime_words.specs.declared.words.Task.{Task}
 use Rattle.fallowtime_words.proofs.SingleLemmas.{one_name, no_option_name, one_task}
 use Rattle.fallowtime_words.proofs.OptionLemmas.{options_follow}
 
-pub no_wait : (words : List (List ℕ)) → ((o : Options) → AreOptions words o ↔ (None ≡ Some o)) → (seconds : Option ℕ) → Wait words seconds → ⊥
-no_wait words same seconds (o, a, w, is) = let e : None ≡ Some o = (same o).0 a in cc
+pub no_options : (words : List (List ℕ)) → ((o : Options) → AreOptions words o ↔ (None ≡ Some o)) → (messages : Bool) (seconds : Option ℕ) → AreOfSession words messages seconds → ⊥
+no_options words same messages seconds (o, a, w, m, is) = let e : None ≡ Some o = (same o).0 a in cc
 
-pub more_than_wait : (words : List (List ℕ)) (read : Options) → ((o : Options) → AreOptions words o ↔ (Some read ≡ Some o)) → (OnlyWait read → ⊥)
-    → (seconds : Option ℕ) → Wait words seconds → ⊥
-more_than_wait words read same more seconds (o, a, w, is) =
+pub more_options : (words : List (List ℕ)) (read : Options) → ((o : Options) → AreOptions words o ↔ (Some read ≡ Some o)) → (IsOfSession read → ⊥)
+    → (messages : Bool) (seconds : Option ℕ) → AreOfSession words messages seconds → ⊥
+more_options words read same more messages seconds (o, a, w, m, is) =
     let e : Some read ≡ Some o = (same o).0 a in
     let here : o ≡ read = cc in
-    more (subst OnlyWait here w)
+    more (subst IsOfSession here w)
 
 pub no_line : (file : List ℕ) (words : List (List ℕ)) (c : Command) (behind : List (List ℕ)) → words ≡ command_name c ∷ behind
     → ((taken : List (List ℕ)) (o : Options) → HasRest c behind taken o → ⊥) → (asked : Asked) → IsTask (file ∷ words) asked → ⊥
@@ -25,15 +25,15 @@ no_line file words c behind e never (line f c' taken o) (is, (b, e', h)) =
     let named : command_name c' ≡ command_name c = cc in
     let rest : b ≡ behind = cc in
     never taken o (subst (λ x. HasRest x behind taken o) (one_name c' c named) (subst (λ x. HasRest c' x taken o) rest h))
-no_line file words c behind e never (session f seconds) (is, (given, e', (o, a, w, s))) =
+no_line file words c behind e never (session f messages seconds) (is, (given, e', (o, a, w, m, s))) =
     let same : given ≡ command_name c ∷ behind = cc in
     no_option_name c (options_follow given o a (command_name c) behind same)
 
 pub no_session_either : (file : List ℕ) (words : List (List ℕ)) → ((c : Command) (behind : List (List ℕ)) → words ≡ command_name c ∷ behind → ⊥)
-    → ((seconds : Option ℕ) → Wait words seconds → ⊥) → (asked : Asked) → IsTask (file ∷ words) asked → ⊥
+    → ((messages : Bool) (seconds : Option ℕ) → AreOfSession words messages seconds → ⊥) → (asked : Asked) → IsTask (file ∷ words) asked → ⊥
 no_session_either file words no_command never (line f c taken o) (is, (b, e, h)) = let same : words ≡ command_name c ∷ b = cc in no_command c b same
-no_session_either file words no_command never (session f seconds) (is, (given, e, w)) =
-    let same : given ≡ words = cc in never seconds (subst (λ x. Wait x seconds) same w)
+no_session_either file words no_command never (session f messages seconds) (is, (given, e, w)) =
+    let same : given ≡ words = cc in never messages seconds (subst (λ x. AreOfSession x messages seconds) same w)
 
 -- what is asked for, as a clause says it
 abbrev pub Tells : List (List ℕ) → Option Task → Type 0

@@ -1,11 +1,11 @@
 -- The words ask for one thing at the most.
-use Rattle.std.proofs.Common.{◌≡◌, ℕ, suc, List, [], ◌∷◌, ◌++◌, Option, Some, slice_index, length, codes, inl, inr, refl, sym, ◌∙◌, ap, subst, arith}
+use Rattle.std.proofs.Common.{◌≡◌, ℕ, suc, Bool, List, [], ◌∷◌, ◌++◌, Option, Some, slice_index, length, codes, inl, inr, refl, sym, ◌∙◌, ap, subst, arith}
 use Rattle.fallowtime_words.specs.Commands.{arguments, command_name, command_of, AreWords, BeginsWith, IsLast, IsQuery}
 use Rattle.fallowtime_words.specs.Options.{Spell, AreOptions, no_options, with_all}
 use Rattle.fallowtime_words.specs.Reading.{MayFollow}
-use Rattle.fallowtime_words.specs.Words.{Asked, line, session, HasRest, IsTask, Wait}
+use Rattle.fallowtime_words.specs.Words.{Asked, line, session, AreOfSession, HasRest, IsTask}
 use Rattle.fallowtime_words.specs.declared.command.Command.{Command}
-use Rattle.fallowtime_words.specs.declared.command.Command.TheVariants.{Insert, Put, Replace, Get, Set, Unset, Update, ReplaceOne, Delete, Remove, Find, Count, Import, Export, Collections, Check, Backup, Index, DropIndex, Version, ImportAll, ExportAll, Edit}
+use Rattle.fallowtime_words.specs.declared.command.Command.TheVariants.{Insert, Put, Replace, Get, Set, Unset, Update, ReplaceOne, Delete, FindAndUpdate, FindAndReplace, FindAndDelete, Remove, Find, Count, Distinct, Import, Export, Collections, Check, Backup, Index, DropIndex, Version, ImportAll, ExportAll, Edit}
 use Rattle.fallowtime_words.specs.declared.options.Given.{Given}
 use Rattle.fallowtime_words.specs.declared.options.Options.{Options}
 use Rattle.fallowtime_words.specs.declared.table.Argument.{Argument}
@@ -24,9 +24,13 @@ command_is Unset = refl
 command_is Update = refl
 command_is ReplaceOne = refl
 command_is Delete = refl
+command_is FindAndUpdate = refl
+command_is FindAndReplace = refl
+command_is FindAndDelete = refl
 command_is Remove = refl
 command_is Find = refl
 command_is Count = refl
+command_is Distinct = refl
 command_is Import = refl
 command_is Export = refl
 command_is Collections = refl
@@ -53,9 +57,13 @@ no_option_name Unset (rest, e) = let first : 117 ≡ 45 = ap (λ w. slice_index 
 no_option_name Update (rest, e) = let first : 117 ≡ 45 = ap (λ w. slice_index w 0) e in absurd (omega (arith, first))
 no_option_name ReplaceOne (rest, e) = let first : 114 ≡ 45 = ap (λ w. slice_index w 0) e in absurd (omega (arith, first))
 no_option_name Delete (rest, e) = let first : 100 ≡ 45 = ap (λ w. slice_index w 0) e in absurd (omega (arith, first))
+no_option_name FindAndUpdate (rest, e) = let first : 102 ≡ 45 = ap (λ w. slice_index w 0) e in absurd (omega (arith, first))
+no_option_name FindAndReplace (rest, e) = let first : 102 ≡ 45 = ap (λ w. slice_index w 0) e in absurd (omega (arith, first))
+no_option_name FindAndDelete (rest, e) = let first : 102 ≡ 45 = ap (λ w. slice_index w 0) e in absurd (omega (arith, first))
 no_option_name Remove (rest, e) = let first : 114 ≡ 45 = ap (λ w. slice_index w 0) e in absurd (omega (arith, first))
 no_option_name Find (rest, e) = let first : 102 ≡ 45 = ap (λ w. slice_index w 0) e in absurd (omega (arith, first))
 no_option_name Count (rest, e) = let first : 99 ≡ 45 = ap (λ w. slice_index w 0) e in absurd (omega (arith, first))
+no_option_name Distinct (rest, e) = let first : 100 ≡ 45 = ap (λ w. slice_index w 0) e in absurd (omega (arith, first))
 no_option_name Import (rest, e) = let first : 105 ≡ 45 = ap (λ w. slice_index w 0) e in absurd (omega (arith, first))
 no_option_name Export (rest, e) = let first : 101 ≡ 45 = ap (λ w. slice_index w 0) e in absurd (omega (arith, first))
 no_option_name Collections (rest, e) = let first : 99 ≡ 45 = ap (λ w. slice_index w 0) e in absurd (omega (arith, first))
@@ -130,9 +138,9 @@ one_rest c words places places' o all (given, e, h, s, t) (given', e', h', s', t
     (a.1 ∙ sym b.1, one_options given o all s (subst (λ x. AreOptions x all) same s'))
 
 -- a command's words are no session's
-no_session : (words given : List (List ℕ)) (file file' : List ℕ) (c : Command) (behind : List (List ℕ)) (seconds : Option ℕ)
-    → words ≡ file ∷ command_name c ∷ behind → words ≡ file' ∷ given → Wait given seconds → ⊥
-no_session words given file file' c behind seconds e e' (o, s, w, is) =
+no_session : (words given : List (List ℕ)) (file file' : List ℕ) (c : Command) (behind : List (List ℕ)) (messages : Bool) (seconds : Option ℕ)
+    → words ≡ file ∷ command_name c ∷ behind → words ≡ file' ∷ given → AreOfSession given messages seconds → ⊥
+no_session words given file file' c behind messages seconds e e' (o, s, w, m, is) =
     let same : given ≡ command_name c ∷ behind = cc in
     no_option_name c (options_follow given o s (command_name c) behind same)
 
@@ -151,11 +159,12 @@ same_line words file file' c c' taken taken' behind behind' o o' e e' h h' =
 
 pub one_task : (words : List (List ℕ)) (s t : Asked) → IsTask words s → IsTask words t → s ≡ t
 one_task words (line file c taken o) (line file' c' taken' o') (f, (b, e, h)) (f', (b', e', h')) = same_line words file file' c c' taken taken' b b' o o' e e' h h'
-one_task words (line file c taken o) (session file' s) (f, (b, e, h)) (f', (given, e', w)) = absurd (no_session words given file file' c b s e e' w)
-one_task words (session file s) (line file' c taken o) (f, (given, e, w)) (f', (b, e', h)) = absurd (no_session words given file' file c b s e' e w)
-one_task words (session file s) (session file' s') (f, (given, e, (o, a, w, is))) (f', (given', e', (o', a', w', is'))) =
+one_task words (line file c taken o) (session file' m s) (f, (b, e, h)) (f', (given, e', w)) = absurd (no_session words given file file' c b m s e e' w)
+one_task words (session file m s) (line file' c taken o) (f, (given, e, w)) (f', (b, e', h)) = absurd (no_session words given file' file c b m s e' e w)
+one_task words (session file m s) (session file' m' s') (f, (given, e, (o, a, w, of, is))) (f', (given', e', (o', a', w', of', is'))) =
     let first : file ≡ file' = cc in
     let same : given' ≡ given = cc in
     let all : o ≡ o' = one_options given o o' a (subst (λ x. AreOptions x o') same a') in
+    let form : m ≡ m' = sym of ∙ (ap (λ x. x.messages) all ∙ of') in
     let last : s ≡ s' = sym is ∙ (ap (λ x. x.seconds) all ∙ is') in
     cc

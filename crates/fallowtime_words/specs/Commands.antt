@@ -2,7 +2,7 @@
 use Rattle.std.specs.Prelude.{◌≡◌, ◌⊎◌, ℕ, List, [], ◌∷◌, ◌++◌, length, codes, if◌then◌else◌, true, false, Option, Some, None}
 use Rattle.std.specs.Str.{bytes_eq}
 use Rattle.fallowtime_words.specs.declared.command.Command.{Command}
-use Rattle.fallowtime_words.specs.declared.command.Command.TheVariants.{Insert, Put, Replace, Get, Set, Unset, Update, ReplaceOne, Delete, Remove, Find, Count, Import, Export, Collections, Check, Backup, Index, DropIndex, Version, ImportAll, ExportAll, Edit}
+use Rattle.fallowtime_words.specs.declared.command.Command.TheVariants.{Insert, Put, Replace, Get, Set, Unset, Update, ReplaceOne, Delete, FindAndUpdate, FindAndReplace, FindAndDelete, Remove, Find, Count, Distinct, Import, Export, Collections, Check, Backup, Index, DropIndex, Version, ImportAll, ExportAll, Edit}
 use Rattle.fallowtime_words.specs.declared.table.Allowed.{Allowed}
 use Rattle.fallowtime_words.specs.declared.table.Argument.{Argument}
 use Rattle.fallowtime_words.specs.declared.table.Argument.TheVariants.{Collection, Document, Id, Key, Value, Query, Selection, Update as Change, Options, Documents, IndexPath, File, Folder}
@@ -13,7 +13,7 @@ use Rattle.fallowtime_words.specs.declared.table.Place.TheVariants.{Both, Comman
 
 -- in the order of the help
 abbrev pub commands : List Command
-commands = Insert ∷ Put ∷ Replace ∷ Get ∷ Set ∷ Unset ∷ Update ∷ ReplaceOne ∷ Delete ∷ Remove ∷ Find ∷ Count ∷ Import ∷ Export ∷ Collections ∷ Check ∷ Backup ∷ Index ∷ DropIndex ∷ Version ∷ ImportAll ∷ ExportAll ∷ Edit ∷ []
+commands = Insert ∷ Put ∷ Replace ∷ Get ∷ Set ∷ Unset ∷ Update ∷ ReplaceOne ∷ Delete ∷ FindAndUpdate ∷ FindAndReplace ∷ FindAndDelete ∷ Remove ∷ Find ∷ Count ∷ Distinct ∷ Import ∷ Export ∷ Collections ∷ Check ∷ Backup ∷ Index ∷ DropIndex ∷ Version ∷ ImportAll ∷ ExportAll ∷ Edit ∷ []
 
 abbrev pub command_name : Command → List ℕ
 command_name Insert = codes "insert"
@@ -25,9 +25,13 @@ command_name Unset = codes "unset"
 command_name Update = codes "update"
 command_name ReplaceOne = codes "replace-one"
 command_name Delete = codes "delete"
+command_name FindAndUpdate = codes "find-and-update"
+command_name FindAndReplace = codes "find-and-replace"
+command_name FindAndDelete = codes "find-and-delete"
 command_name Remove = codes "remove"
 command_name Find = codes "find"
 command_name Count = codes "count"
+command_name Distinct = codes "distinct"
 command_name Import = codes "import"
 command_name Export = codes "export"
 command_name Collections = codes "collections"
@@ -59,9 +63,13 @@ arguments Unset = Collection ∷ Id ∷ Key ∷ []
 arguments Update = Collection ∷ Selection ∷ Change ∷ Options ∷ []
 arguments ReplaceOne = Collection ∷ Selection ∷ Document ∷ []
 arguments Delete = Collection ∷ Selection ∷ Options ∷ []
+arguments FindAndUpdate = Collection ∷ Selection ∷ Change ∷ []
+arguments FindAndReplace = Collection ∷ Selection ∷ Document ∷ []
+arguments FindAndDelete = Collection ∷ Selection ∷ []
 arguments Remove = Collection ∷ Id ∷ []
 arguments Find = Collection ∷ Query ∷ []
 arguments Count = Collection ∷ Query ∷ []
+arguments Distinct = Collection ∷ IndexPath ∷ Query ∷ []
 arguments Import = Collection ∷ Documents ∷ []
 arguments Export = Collection ∷ []
 arguments Collections = []
@@ -76,13 +84,18 @@ arguments Edit = Collection ∷ Id ∷ []
 
 -- the options beside `--wait`
 abbrev pub allowed : Command → Allowed
-allowed Insert = record { canonical = true; bytes = false; lines = false; many = false; arranged = false }
-allowed Get = record { canonical = true; bytes = true; lines = false; many = false; arranged = false }
-allowed Find = record { canonical = true; bytes = true; lines = false; many = false; arranged = true }
-allowed Import = record { canonical = false; bytes = false; lines = true; many = false; arranged = false }
-allowed Update = record { canonical = false; bytes = false; lines = false; many = true; arranged = false }
-allowed Delete = record { canonical = false; bytes = false; lines = false; many = true; arranged = false }
-allowed _ = record { canonical = false; bytes = false; lines = false; many = false; arranged = false }
+allowed Insert = record { canonical = true; bytes = false; lines = false; many = false; after = false; upsert = false; counts = false; arranged = false }
+allowed Get = record { canonical = true; bytes = true; lines = false; many = false; after = false; upsert = false; counts = false; arranged = false }
+allowed Find = record { canonical = true; bytes = true; lines = false; many = false; after = false; upsert = false; counts = false; arranged = true }
+allowed Import = record { canonical = false; bytes = false; lines = true; many = false; after = false; upsert = false; counts = false; arranged = false }
+allowed Update = record { canonical = false; bytes = false; lines = false; many = true; after = false; upsert = true; counts = false; arranged = false }
+allowed ReplaceOne = record { canonical = false; bytes = false; lines = false; many = false; after = false; upsert = true; counts = false; arranged = false }
+allowed FindAndUpdate = record { canonical = true; bytes = true; lines = false; many = false; after = true; upsert = false; counts = false; arranged = true }
+allowed FindAndReplace = record { canonical = true; bytes = true; lines = false; many = false; after = true; upsert = false; counts = false; arranged = true }
+allowed FindAndDelete = record { canonical = true; bytes = true; lines = false; many = false; after = false; upsert = false; counts = false; arranged = true }
+allowed Delete = record { canonical = false; bytes = false; lines = false; many = true; after = false; upsert = false; counts = false; arranged = false }
+allowed Distinct = record { canonical = true; bytes = false; lines = false; many = false; after = false; upsert = false; counts = true; arranged = false }
+allowed _ = record { canonical = false; bytes = false; lines = false; many = false; after = false; upsert = false; counts = false; arranged = false }
 
 -- what becomes of FILE
 abbrev pub effect : Command → Effect
@@ -96,6 +109,9 @@ effect Unset = Changes
 effect Update = Changes
 effect ReplaceOne = Changes
 effect Delete = Changes
+effect FindAndUpdate = Changes
+effect FindAndReplace = Changes
+effect FindAndDelete = Changes
 effect Remove = Changes
 effect Edit = Changes
 effect _ = Reads

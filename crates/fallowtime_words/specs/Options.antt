@@ -10,7 +10,7 @@ use Rattle.fallowtime_words.specs.declared.options.Given.{Given}
 use Rattle.fallowtime_words.specs.declared.options.OptionValue.{OptionValue}
 use Rattle.fallowtime_words.specs.declared.options.OptionValue.TheVariants.{Nothing, Number, Text}
 use Rattle.fallowtime_words.specs.declared.options.OptionName.{OptionName}
-use Rattle.fallowtime_words.specs.declared.options.OptionName.TheVariants.{Canonical, Bytes, Lines, Many, Wait, Sort, Skip, Limit, Fields, Without}
+use Rattle.fallowtime_words.specs.declared.options.OptionName.TheVariants.{Canonical, Bytes, Lines, Many, After, Upsert, Counts, Messages, Wait, Sort, Skip, Limit, Fields, Without}
 use Rattle.fallowtime_words.specs.declared.options.Options.{Options}
 
 -- decimal digits, and the number that they write
@@ -24,6 +24,10 @@ option_named word =
     else if bytes_eq word (codes "bson") then Some Bytes
     else if bytes_eq word (codes "json") then Some Lines
     else if bytes_eq word (codes "many") then Some Many
+    else if bytes_eq word (codes "after") then Some After
+    else if bytes_eq word (codes "upsert") then Some Upsert
+    else if bytes_eq word (codes "count") then Some Counts
+    else if bytes_eq word (codes "messages") then Some Messages
     else if bytes_eq word (codes "wait") then Some Wait
     else if bytes_eq word (codes "sort") then Some Sort
     else if bytes_eq word (codes "skip") then Some Skip
@@ -61,7 +65,7 @@ Spell words [] = words ≡ []
 Spell words (g ∷ gs) = (behind : List (List ℕ)) × Lead words g behind × Spell behind gs
 
 abbrev pub no_options : Options
-no_options = record { canonical = false; bytes = false; lines = false; many = false; seconds = None; sort = None; skip = None; limit = None; fields = None; without = None }
+no_options = record { canonical = false; bytes = false; lines = false; many = false; after = false; upsert = false; counts = false; messages = false; seconds = None; sort = None; skip = None; limit = None; fields = None; without = None }
 
 -- the options and one more of this number, if it isn't among them
 abbrev pub with_option : OptionName → ℕ → Options → Option Options
@@ -69,6 +73,10 @@ with_option Canonical n o = if o.canonical then None else Some (record o { canon
 with_option Bytes n o = if o.bytes then None else Some (record o { bytes = true })
 with_option Lines n o = if o.lines then None else Some (record o { lines = true })
 with_option Many n o = if o.many then None else Some (record o { many = true })
+with_option After n o = if o.after then None else Some (record o { after = true })
+with_option Upsert n o = if o.upsert then None else Some (record o { upsert = true })
+with_option Counts n o = if o.counts then None else Some (record o { counts = true })
+with_option Messages n o = if o.messages then None else Some (record o { messages = true })
 with_option Wait n o = if is_some o.seconds then None else Some (record o { seconds = Some n })
 with_option Sort n o = if is_some o.sort then None else Some (record o { sort = Some n })
 with_option Skip n o = if is_some o.skip then None else Some (record o { skip = Some n })
@@ -92,17 +100,29 @@ AreOptions words o = (gs : List Given) × Spell words gs × (with_all gs no_opti
 abbrev pub IsArranged : Options → Type 0
 IsArranged o = (is_some o.sort ≡ true) ⊎ (is_some o.skip ≡ true) ⊎ (is_some o.limit ≡ true) ⊎ (is_some o.fields ≡ true) ⊎ (is_some o.without ≡ true)
 
--- no option except `--wait`
-abbrev pub OnlyWait : Options → Type 0
-OnlyWait o = (o.canonical ≡ false) × (o.bytes ≡ false) × (o.lines ≡ false) × (o.many ≡ false) × (IsArranged o → ⊥)
+-- no option except `--messages` and `--wait`
+abbrev pub IsOfSession : Options → Type 0
+IsOfSession o = (o.canonical ≡ false) × (o.bytes ≡ false) × (o.lines ≡ false) × (o.many ≡ false) × (o.after ≡ false) × (o.upsert ≡ false) × (o.counts ≡ false) × (IsArranged o → ⊥)
 
--- the options are among those that a row allows
-pub record AreAllowed (row : Allowed) (o : Options) : Type 0 where
+-- a row allows the options that say in which form, and which, documents are read or printed
+pub record FormsAreAllowed (row : Allowed) (o : Options) : Type 0 where
   pub canonical : o.canonical ≡ true → row.canonical ≡ true
   pub bytes : o.bytes ≡ true → row.bytes ≡ true
   pub lines : o.lines ≡ true → row.lines ≡ true
-  pub many : o.many ≡ true → row.many ≡ true
+  pub counts : o.counts ≡ true → row.counts ≡ true
   pub arranged : IsArranged o → row.arranged ≡ true
+
+-- it allows those that say what a change does
+pub record ChangesAreAllowed (row : Allowed) (o : Options) : Type 0 where
+  pub many : o.many ≡ true → row.many ≡ true
+  pub after : o.after ≡ true → row.after ≡ true
+  pub upsert : o.upsert ≡ true → row.upsert ≡ true
+
+-- the options are among those that a row allows; none allows `--messages`
+pub record AreAllowed (row : Allowed) (o : Options) : Type 0 where
+  pub forms : FormsAreAllowed row o
+  pub changes : ChangesAreAllowed row o
+  pub messages : o.messages ≡ false
 
 -- The options that a command has on a command line. Documents are printed as canonical Extended JSON or written as BSON.
 pub record Takes (command : Command) (o : Options) : Type 0 where

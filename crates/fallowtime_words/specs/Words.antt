@@ -1,21 +1,21 @@
 -- The words after the program's name, and what they ask for.
-use Rattle.std.specs.Prelude.{◌≡◌, ℕ, List, [], ◌∷◌, ◌++◌, codes, map, string_bytes, length, if◌then◌else◌, ◌==◌, Option, Some, None, option_and_then, option_map}
+use Rattle.std.specs.Prelude.{◌≡◌, ℕ, Bool, List, [], ◌∷◌, ◌++◌, codes, map, string_bytes, length, if◌then◌else◌, ◌==◌, Option, Some, None, option_and_then, option_map}
 use Rattle.fallowtime_words.specs.Commands.{arguments, command_name, AreWords, BeginsWith}
-use Rattle.fallowtime_words.specs.Options.{AreOptions, OnlyWait, Takes}
+use Rattle.fallowtime_words.specs.Options.{AreOptions, IsOfSession, Takes}
 use Rattle.fallowtime_words.specs.declared.command.Command.{Command}
 use Rattle.fallowtime_words.specs.declared.options.Options.{Options}
 use Rattle.fallowtime_words.specs.declared.words.Task.{Task}
 use Rattle.fallowtime_words.specs.declared.words.Task.TheVariants as task
 use Rattle.fallowtime_words.specs.declared.words.Words.{Words as Wording}
 
--- a command, or a session, over a file
+-- a command, or a session, over a file: of lines, or of MongoDB's messages
 pub data Asked : Type 0 where
   line : (file : List ℕ) (command : Command) (words : List (List ℕ)) (options : Options) → Asked
-  session : (file : List ℕ) (seconds : Option ℕ) → Asked
+  session : (file : List ℕ) (messages : Bool) (seconds : Option ℕ) → Asked
 
 abbrev pub asked_of : Task → Asked
 asked_of (task.Command w) = line w.file.now w.command (map string_bytes w.arguments.now) w.options
-asked_of (task.Session file seconds) = session file.now seconds
+asked_of (task.Session file messages seconds) = session file.now messages seconds
 
 -- the file of a store; one that begins with a hyphen is written ./-
 abbrev pub IsFile : List ℕ → Type 0
@@ -43,13 +43,13 @@ pub record HasTexts (words : List (List ℕ)) (w : Wording) : Type 0 where
 -- these texts are given with the task
 abbrev pub IsTold : List (List ℕ) → Task → Type 0
 IsTold words (task.Command w) = (behind : List (List ℕ)) × (words ≡ w.file.now ∷ command_name w.command ∷ behind) × HasTexts behind w
-IsTold words (task.Session file seconds) = Unit {0}
+IsTold words (task.Session file messages seconds) = Unit {0}
 
--- no option, or only this one: for how many seconds a file is waited for
-abbrev pub Wait : List (List ℕ) → Option ℕ → Type 0
-Wait words seconds = (o : Options) × AreOptions words o × OnlyWait o × (o.seconds ≡ seconds)
+-- no options but these: whether messages are answered, and for how many seconds a file is waited for
+abbrev pub AreOfSession : List (List ℕ) → Bool → Option ℕ → Type 0
+AreOfSession words messages seconds = (o : Options) × AreOptions words o × IsOfSession o × (o.messages ≡ messages) × (o.seconds ≡ seconds)
 
 -- the words ask for this
 abbrev pub IsTask : List (List ℕ) → Asked → Type 0
 IsTask words (line file command taken o) = IsFile file × ((behind : List (List ℕ)) × (words ≡ file ∷ command_name command ∷ behind) × HasRest command behind taken o)
-IsTask words (session file seconds) = IsFile file × ((given : List (List ℕ)) × (words ≡ file ∷ given) × Wait given seconds)
+IsTask words (session file messages seconds) = IsFile file × ((given : List (List ℕ)) × (words ≡ file ∷ given) × AreOfSession given messages seconds)

@@ -30,12 +30,22 @@ pub enum Command {
     /// `delete COLL QUERY`: removes the first of the selected documents, or with `--many` all of them, and prints how
     /// many.
     Delete,
+    /// `find-and-update COLL QUERY UPDATE`: updates the first of the documents that are found, and prints it as it was, or
+    /// with `--after` as it is afterwards.
+    FindAndUpdate,
+    /// `find-and-replace COLL QUERY DOC`: replaces the first of the documents that are found, and prints it as it was, or
+    /// with `--after` as it is afterwards.
+    FindAndReplace,
+    /// `find-and-delete COLL QUERY`: removes the first of the documents that are found, and prints it.
+    FindAndDelete,
     /// `remove COLL ID`: removes a document.
     Remove,
     /// `find COLL [QUERY]`: prints the selected documents.
     Find,
     /// `count COLL [QUERY]`: prints how many documents are selected.
     Count,
+    /// `distinct COLL PATH [QUERY]`: prints the different values at a path of the selected documents.
+    Distinct,
     /// `import COLL`: takes in documents from standard input, all or none, and prints their number.
     Import,
     /// `export COLL`: writes all documents as BSON.

@@ -19,6 +19,14 @@ pub struct Options {
     pub lines: bool,
     /// `--many`: all selected documents are changed; else the first of them.
     pub many: bool,
+    /// `--after`: a document that is changed is returned as it is afterwards; else as it was before.
+    pub after: bool,
+    /// `--upsert`: a document is put in if none is selected.
+    pub upsert: bool,
+    /// `--count`: of each value it is said how many documents have it; else not.
+    pub counts: bool,
+    /// `--messages`: MongoDB's messages are answered; else lines.
+    pub messages: bool,
     /// `--wait SECONDS`: how many seconds to wait for a file that another process has, if that is given.
     pub seconds: Option<u64>,
     /// `--sort KEYS`: how many words are behind KEYS, if that is given.
@@ -44,6 +52,14 @@ pub enum OptionName {
     Lines,
     /// `--many`.
     Many,
+    /// `--after`.
+    After,
+    /// `--upsert`.
+    Upsert,
+    /// `--count`.
+    Counts,
+    /// `--messages`.
+    Messages,
     /// `--wait`.
     Wait,
     /// `--sort`.
@@ -82,6 +98,10 @@ fn option_named(word: &str) -> Option<OptionName>
         "bson" => Some(OptionName::Bytes),
         "json" => Some(OptionName::Lines),
         "many" => Some(OptionName::Many),
+        "after" => Some(OptionName::After),
+        "upsert" => Some(OptionName::Upsert),
+        "count" => Some(OptionName::Counts),
+        "messages" => Some(OptionName::Messages),
         "wait" => Some(OptionName::Wait),
         "sort" => Some(OptionName::Sort),
         "skip" => Some(OptionName::Skip),
@@ -160,7 +180,7 @@ fn split_option(words: &[String]) -> Option<(Given, &[String])>
 
 impl Options {
     ghost use Rattle.std.specs.Prelude.{◌≡◌, ◌↔◌, IsTrue};
-    ghost use Rattle.fallowtime_words.specs.Options.{AreAllowed, IsArranged, OnlyWait, added};
+    ghost use Rattle.fallowtime_words.specs.Options.{AreAllowed, ChangesAreAllowed, FormsAreAllowed, IsArranged, IsOfSession, added};
 
     /// No option.
     const NONE: Options = Options {
@@ -168,6 +188,10 @@ impl Options {
         bytes: false,
         lines: false,
         many: false,
+        after: false,
+        upsert: false,
+        counts: false,
+        messages: false,
         seconds: None,
         sort: None,
         skip: None,
@@ -187,22 +211,43 @@ impl Options {
             || self.without.is_some()
     }
 
-    /// Whether each is among those that a row allows.
-    pub(crate) fn are_among(self, row: Allowed) -> bool
-        ensures { IsTrue result ↔ AreAllowed row self }
+    /// Whether a row allows those of them that say in which form, and which, documents are read or printed.
+    fn forms_are_among(self, row: Allowed) -> bool
+        ensures { IsTrue result ↔ FormsAreAllowed row self }
     {
         (!self.canonical || row.canonical)
             && (!self.bytes || row.bytes)
             && (!self.lines || row.lines)
-            && (!self.many || row.many)
+            && (!self.counts || row.counts)
             && (!self.is_arranged() || row.arranged)
     }
 
-    /// Whether there is none except `--wait`.
-    pub(crate) fn only_wait(self) -> bool
-        ensures { IsTrue result ↔ OnlyWait self }
+    /// Whether it allows those that say what a change does.
+    fn changes_are_among(self, row: Allowed) -> bool
+        ensures { IsTrue result ↔ ChangesAreAllowed row self }
     {
-        !self.canonical && !self.bytes && !self.lines && !self.many && !self.is_arranged()
+        (!self.many || row.many) && (!self.after || row.after) && (!self.upsert || row.upsert)
+    }
+
+    /// Whether each is among those that a row allows.
+    pub(crate) fn are_among(self, row: Allowed) -> bool
+        ensures { IsTrue result ↔ AreAllowed row self }
+    {
+        self.forms_are_among(row) && self.changes_are_among(row) && !self.messages
+    }
+
+    /// Whether there is none except `--messages` and `--wait`.
+    pub(crate) fn are_of_session(self) -> bool
+        ensures { IsTrue result ↔ IsOfSession self }
+    {
+        !self.canonical
+            && !self.bytes
+            && !self.lines
+            && !self.many
+            && !self.after
+            && !self.upsert
+            && !self.counts
+            && !self.is_arranged()
     }
 
     /// These options and one more; none if it is among them.
@@ -224,6 +269,22 @@ impl Options {
                 ..self
             }),
             OptionName::Many if !self.many => Some(Options { many: true, ..self }),
+            OptionName::After if !self.after => Some(Options {
+                after: true,
+                ..self
+            }),
+            OptionName::Upsert if !self.upsert => Some(Options {
+                upsert: true,
+                ..self
+            }),
+            OptionName::Counts if !self.counts => Some(Options {
+                counts: true,
+                ..self
+            }),
+            OptionName::Messages if !self.messages => Some(Options {
+                messages: true,
+                ..self
+            }),
             OptionName::Wait if self.seconds.is_none() => Some(Options {
                 seconds: Some(number as u64),
                 ..self

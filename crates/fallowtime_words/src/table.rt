@@ -25,7 +25,7 @@ pub enum Argument {
     Options,
     /// DOCS: bytes of BSON, or an array of documents. On a command line it is the standard input.
     Documents,
-    /// PATH of an index: keys with dots between them.
+    /// PATH of an index or of values: keys with dots between them.
     IndexPath,
     /// PATH: a file that isn't there.
     File,
@@ -70,6 +70,12 @@ pub struct Allowed {
     pub lines: bool,
     /// `--many`.
     pub many: bool,
+    /// `--after`.
+    pub after: bool,
+    /// `--upsert`.
+    pub upsert: bool,
+    /// `--count`.
+    pub counts: bool,
     /// `--sort`, `--skip`, `--limit`, `--fields` and `--without`.
     pub arranged: bool,
 }
@@ -98,6 +104,9 @@ const NO_OPTION: Allowed = Allowed {
     bytes: false,
     lines: false,
     many: false,
+    after: false,
+    upsert: false,
+    counts: false,
     arranged: false,
 };
 
@@ -116,6 +125,11 @@ const FOUND: Allowed = Allowed {
     ..PRINTED
 };
 
+const FOUND_AFTER: Allowed = Allowed {
+    after: true,
+    ..FOUND
+};
+
 const LINES: Allowed = Allowed {
     lines: true,
     ..NO_OPTION
@@ -126,8 +140,23 @@ const MANY: Allowed = Allowed {
     ..NO_OPTION
 };
 
+const UPSERT: Allowed = Allowed {
+    upsert: true,
+    ..NO_OPTION
+};
+
+const MANY_OR_UPSERT: Allowed = Allowed {
+    many: true,
+    ..UPSERT
+};
+
+const COUNTED: Allowed = Allowed {
+    counts: true,
+    ..CANONICAL
+};
+
 /// The commands, in the order of the help.
-pub const TABLE: [Signature; 23] = [
+pub const TABLE: [Signature; 27] = [
     Signature {
         command: Command::Insert,
         name: "insert",
@@ -196,7 +225,7 @@ pub const TABLE: [Signature; 23] = [
             Argument::Update,
             Argument::Options,
         ],
-        options: MANY,
+        options: MANY_OR_UPSERT,
         effect: Effect::Changes,
         place: Place::Both,
         about: "updates the first that is selected, or all",
@@ -209,7 +238,7 @@ pub const TABLE: [Signature; 23] = [
             Argument::Selection,
             Argument::Document,
         ],
-        options: NO_OPTION,
+        options: UPSERT,
         effect: Effect::Changes,
         place: Place::Both,
         about: "puts a document where the first selected one is",
@@ -222,6 +251,37 @@ pub const TABLE: [Signature; 23] = [
         effect: Effect::Changes,
         place: Place::Both,
         about: "removes the first that is selected, or all",
+    },
+    Signature {
+        command: Command::FindAndUpdate,
+        name: "find-and-update",
+        arguments: &[Argument::Collection, Argument::Selection, Argument::Update],
+        options: FOUND_AFTER,
+        effect: Effect::Changes,
+        place: Place::Both,
+        about: "updates the first found, and prints it",
+    },
+    Signature {
+        command: Command::FindAndReplace,
+        name: "find-and-replace",
+        arguments: &[
+            Argument::Collection,
+            Argument::Selection,
+            Argument::Document,
+        ],
+        options: FOUND_AFTER,
+        effect: Effect::Changes,
+        place: Place::Both,
+        about: "replaces the first found, and prints it",
+    },
+    Signature {
+        command: Command::FindAndDelete,
+        name: "find-and-delete",
+        arguments: &[Argument::Collection, Argument::Selection],
+        options: FOUND,
+        effect: Effect::Changes,
+        place: Place::Both,
+        about: "removes the first found, and prints it",
     },
     Signature {
         command: Command::Remove,
@@ -249,6 +309,15 @@ pub const TABLE: [Signature; 23] = [
         effect: Effect::Reads,
         place: Place::Both,
         about: "prints how many are selected, or are there",
+    },
+    Signature {
+        command: Command::Distinct,
+        name: "distinct",
+        arguments: &[Argument::Collection, Argument::IndexPath, Argument::Query],
+        options: COUNTED,
+        effect: Effect::Reads,
+        place: Place::Both,
+        about: "prints the different values at a path",
     },
     Signature {
         command: Command::Import,

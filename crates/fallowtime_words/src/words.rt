@@ -1,8 +1,8 @@
 //! The words that the program is started with.
 
-ghost use Rattle.std.specs.Prelude.{◌≡◌, ◌↔◌, ◌∷◌, ℕ, List, Option, Some, IfSome, IsTrue, MatchOption, map, option_map, string_bytes};
+ghost use Rattle.std.specs.Prelude.{◌≡◌, ◌↔◌, ◌∷◌, ℕ, Bool, List, Option, Some, IfSome, IsTrue, MatchOption, map, option_map, string_bytes};
 ghost use Rattle.fallowtime_words.specs.Commands.{command_name};
-ghost use Rattle.fallowtime_words.specs.Words.{Asked, session, HasRest, HasTexts, IsFile, IsTask, IsTold, Wait, asked_of, text_of, word_before};
+ghost use Rattle.fallowtime_words.specs.Words.{AreOfSession, Asked, session, HasRest, HasTexts, IsFile, IsTask, IsTold, asked_of, text_of, word_before};
 ghost use Rattle.fallowtime_words.specs.declared.command.Command.{Command};
 ghost use Rattle.fallowtime_words.specs.declared.options.Options.{Options};
 
@@ -35,10 +35,12 @@ pub struct Words<'a> {
 pub enum Task<'a> {
     /// One command.
     Command(Words<'a>),
-    /// A session over a file: the requests of the lines of standard input.
+    /// A session over a file: the requests of standard input.
     Session {
         /// The file of the store.
         file: &'a str,
+        /// Whether they are MongoDB's messages; else lines.
+        messages: bool,
         /// How many seconds to wait for the file if another process has it, if that is given.
         seconds: Option<u64>,
     },
@@ -105,18 +107,18 @@ fn read_line<'a>(file: &'a str, command: Command, words: &'a [String]) -> Option
     })
 }
 
-/// How long a session waits for its file, by the words after it: for these seconds, or for the default. None if there
-/// are other words than `--wait SECONDS`.
-fn read_patience(words: &[String]) -> Option<Option<u64>>
+/// Whether a session is of messages, and how long it waits for its file, by the words after that: for these seconds, or
+/// for the default. None if there are other words than `--messages` and `--wait SECONDS`.
+fn read_session(words: &[String]) -> Option<(bool, Option<u64>)>
     ensures { MatchOption result
-        ((seconds : Option ℕ) → Wait (map string_bytes words.now) seconds → ⊥)
-        (λ seconds. Wait (map string_bytes words.now) seconds) }
+        ((messages : Bool) (seconds : Option ℕ) → AreOfSession (map string_bytes words.now) messages seconds → ⊥)
+        (λ r. AreOfSession (map string_bytes words.now) r.0 r.1) }
 {
     let options = read_options(words)?;
-    if !options.only_wait() {
+    if !options.are_of_session() {
         return None;
     }
-    Some(options.seconds)
+    Some((options.messages, options.seconds))
 }
 
 /// What the words over a file ask for.
@@ -129,10 +131,14 @@ fn read_behind<'a>(file: &'a str, words: &'a [String]) -> Option<Task<'a>>
 {
     match split_command(words) {
         Some((command, behind)) => Some(Task::Command(read_line(file, command, behind)?)),
-        None => Some(Task::Session {
-            file,
-            seconds: read_patience(words)?,
-        }),
+        None => {
+            let (messages, seconds) = read_session(words)?;
+            Some(Task::Session {
+                file,
+                messages,
+                seconds,
+            })
+        }
     }
 }
 
@@ -154,8 +160,8 @@ pub fn read_words(words: &[String]) -> Option<Task<'_>>
 
 /// Whether the words ask for a session, whose answers are written at once.
 pub fn is_session(words: &[String]) -> bool
-    ensures { IsTrue result ↔ ((file : List ℕ) × (seconds : Option ℕ)
-        × IsTask (map string_bytes words.now) (session file seconds)) }
+    ensures { IsTrue result ↔ ((file : List ℕ) × (messages : Bool) × (seconds : Option ℕ)
+        × IsTask (map string_bytes words.now) (session file messages seconds)) }
 {
     match read_words(words) {
         Some(Task::Session { .. }) => true,

@@ -4,9 +4,11 @@
 mod error;
 mod operands;
 mod paths;
+mod seed;
 mod update;
 mod values;
 mod words;
 
 pub use error::{ReadError, Reason};
+pub use seed::{Seed, seed_of};
 pub use update::{read_update, update_of};

@@ -25,6 +25,7 @@ fn is_modifier(places: bool, key: &str) -> bool
     key == "$each" || (places && (key == "$position" || key == "$slice"))
 }
 
+/// Whether all keys of an operand are modifiers; `places` allows `$position` and `$slice` beside `$each`.
 fn are_modifiers(places: bool, members: &[(&str, Value<'_>)]) -> bool
     ensures { result ≡ are_modifiers places (members_view members.now) }
 {
@@ -36,6 +37,7 @@ fn are_modifiers(places: bool, members: &[(&str, Value<'_>)]) -> bool
     true
 }
 
+/// Whether an operand is an object that has modifiers alone; `places` allows `$position` and `$slice` beside `$each`.
 fn has_modifiers(places: bool, tree: &Value<'_>) -> bool
     ensures { result ≡ has_modifiers places (data_of tree.now) }
 {
@@ -163,6 +165,9 @@ fn each(
     }
 }
 
+/// What `$push` does: it adds one value, or the values of `$each`, where `$position` says, and keeps what `$slice`
+/// says. `At` by Operand if there is another key beside `$each`, if `$each` has no array of values, or if `$position`
+/// or `$slice` has no integer of 32 or 64 bits.
 fn push(alloc: Global, name: &str, path: &str, tree: &Value<'_>) -> Result<Operation, ReadError>
     ensures { Gives change_of result (push_at name.now path.now (get (codes "$each") (data_of tree.now)) (data_of tree.now)) }
 {
@@ -188,6 +193,8 @@ fn push(alloc: Global, name: &str, path: &str, tree: &Value<'_>) -> Result<Opera
     }
 }
 
+/// What `$addToSet` does: it adds one value, or the values of `$each`, where they are missing. `At` by Operand if
+/// there is any other key beside `$each`, if its value is no array, or if something in it spells no value.
 fn include(alloc: Global, name: &str, path: &str, tree: &Value<'_>) -> Result<Operation, ReadError>
     ensures { Gives change_of result (include_at name.now path.now (get (codes "$each") (data_of tree.now)) (data_of tree.now)) }
 {
@@ -203,6 +210,8 @@ fn include(alloc: Global, name: &str, path: &str, tree: &Value<'_>) -> Result<Op
     }
 }
 
+/// What `$pull` does: it takes out the items that are equal to a value. `At` by Operand for a document or a regular
+/// expression, which would be a condition, and for what spells no value.
 fn pull(alloc: Global, name: &str, path: &str, tree: &Value<'_>) -> Result<Operation, ReadError>
     ensures { Gives change_of result (pull_at name.now path.now (data_of tree.now)) }
 {
@@ -214,6 +223,8 @@ fn pull(alloc: Global, name: &str, path: &str, tree: &Value<'_>) -> Result<Opera
     }
 }
 
+/// What `$pop` does: it takes out the last item of an array by 1, the first one by -1. `At` by Operand for any other
+/// operand, also for a double.
 fn pop(alloc: Global, name: &str, path: &str, tree: &Value<'_>) -> Result<Operation, ReadError>
     ensures { Gives change_of result (pop_at name.now path.now (data_of tree.now)) }
 {

@@ -34,6 +34,7 @@ fn touches(path: &[String], step: &Step) -> bool
     }
 }
 
+/// Whether one of the steps is for a path that is this one, its beginning, or one that begins with it.
 fn is_touched(path: &[String], steps: &[Step]) -> bool
     ensures { result ≡ list_any (touches (path_of path.now)) (map plan_of steps.now) }
 {
@@ -45,6 +46,7 @@ fn is_touched(path: &[String], steps: &[Step]) -> bool
     false
 }
 
+/// Whether a key can stand in the path of an update: it isn't empty, and doesn't begin with `$`.
 fn is_key(key: &str) -> bool
     ensures { result ≡ is_key key.now }
 {
@@ -54,6 +56,7 @@ fn is_key(key: &str) -> bool
     }
 }
 
+/// Whether each of the keys can stand in the path of an update: none is empty or begins with `$`.
 fn are_keys(keys: &[String]) -> bool
     ensures { result ≡ list_all is_key (path_of keys.now) }
 {

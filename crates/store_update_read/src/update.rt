@@ -32,6 +32,7 @@ pub fn update_of(alloc: Global, now: DateTime, tree: &Value<'_>) -> Result<Vec<S
     }
 }
 
+/// The steps of all operators of an update, in their order. The error is that of the first one at fault.
 fn entries(
     alloc: Global,
     now: DateTime,
@@ -65,6 +66,7 @@ fn entry(
     }
 }
 
+/// The steps, and behind them one for each path under an operator. The error is that of the first path at fault.
 fn fields(
     alloc: Global,
     now: DateTime,
@@ -84,7 +86,7 @@ fn fields(
 }
 
 /// One operator at one path, behind these steps.
-fn field(
+pub(crate) fn field(
     alloc: Global,
     now: DateTime,
     steps: &[Step],
@@ -115,6 +117,8 @@ fn target<'a>(alloc: Global, name: &str, path: &str, body: &Value<'a>) -> Result
     }
 }
 
+/// The step of `$rename`, from `keys` to the path in `body`. `At` by Operand if that is no text, and by Conflict if
+/// one of the two paths is the beginning of the other; else the errors are those of `path_at`.
 fn renamed(
     alloc: Global,
     steps: &[Step],

@@ -29,6 +29,8 @@ pub(crate) fn value(
     }
 }
 
+/// The values that these items spell, in their order. `At` by Operand for the first that spells none, and `Memory` if
+/// a growth was refused.
 fn each_value(
     alloc: Global,
     name: &str,
@@ -59,6 +61,7 @@ pub(crate) fn values(
     }
 }
 
+/// Whether `$inc` and `$mul` take a value: a double, a decimal of 128 bits, or an integer of 32 or 64 bits.
 fn is_number(value: &Bson) -> bool
     ensures { result ≡ is_number (view value.now) }
 {
@@ -71,6 +74,7 @@ fn is_number(value: &Bson) -> bool
     }
 }
 
+/// The integer that a value of 32 or 64 bits holds. None for any other kind, also for a double without a fraction.
 fn integer_of(value: &Bson) -> Option<i64>
     ensures { result ≡ integer_of (view value.now) }
 {

@@ -28,6 +28,7 @@ pub(crate) enum Operator {
     Rename,
 }
 
+/// The operator that is written so at the top of an update, with its `$`. None if no operator has this name.
 #[tactic(auto, unfolding(crate::specs::Read::operator_of))]
 pub(crate) fn operator_named(name: &str) -> Option<Operator>
     ensures { result ≡ operator_of name.now }

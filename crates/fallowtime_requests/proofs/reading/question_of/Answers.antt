@@ -61,6 +61,24 @@ returns-in-Delete-clause-asked c = by_command c.args.maker.now c.args.command co
 pub returns-in-Delete-clause-maker : goal.returns-in-Delete-clause-maker
 returns-in-Delete-clause-maker c = λ other. stays c.args.maker.now c.delete.result
 
+pub returns-in-FindAndUpdate-clause-asked : goal.returns-in-FindAndUpdate-clause-asked
+returns-in-FindAndUpdate-clause-asked c = by_command c.args.maker.now c.args.command command.FindAndUpdate (map seen c.args.arguments.now) c.find_and_update.result c.in-FindAndUpdate.is c.find_and_update.ensures
+
+pub returns-in-FindAndUpdate-clause-maker : goal.returns-in-FindAndUpdate-clause-maker
+returns-in-FindAndUpdate-clause-maker c = λ other. stays c.args.maker.now c.find_and_update.result
+
+pub returns-in-FindAndReplace-clause-asked : goal.returns-in-FindAndReplace-clause-asked
+returns-in-FindAndReplace-clause-asked c = by_command c.args.maker.now c.args.command command.FindAndReplace (map seen c.args.arguments.now) c.find_and_replace.result c.in-FindAndReplace.is c.find_and_replace.ensures
+
+pub returns-in-FindAndReplace-clause-maker : goal.returns-in-FindAndReplace-clause-maker
+returns-in-FindAndReplace-clause-maker c = λ other. stays c.args.maker.now c.find_and_replace.result
+
+pub returns-in-FindAndDelete-clause-asked : goal.returns-in-FindAndDelete-clause-asked
+returns-in-FindAndDelete-clause-asked c = by_command c.args.maker.now c.args.command command.FindAndDelete (map seen c.args.arguments.now) c.find_and_delete.result c.in-FindAndDelete.is c.find_and_delete.ensures
+
+pub returns-in-FindAndDelete-clause-maker : goal.returns-in-FindAndDelete-clause-maker
+returns-in-FindAndDelete-clause-maker c = λ other. stays c.args.maker.now c.find_and_delete.result
+
 pub returns-in-Remove-clause-asked : goal.returns-in-Remove-clause-asked
 returns-in-Remove-clause-asked c = by_command c.args.maker.now c.args.command command.Remove (map seen c.args.arguments.now) c.remove.result c.in-Remove.is c.remove.ensures
 
@@ -78,6 +96,12 @@ returns-in-Count-clause-asked c = by_command c.args.maker.now c.args.command com
 
 pub returns-in-Count-clause-maker : goal.returns-in-Count-clause-maker
 returns-in-Count-clause-maker c = λ other. stays c.args.maker.now c.count.result
+
+pub returns-in-Distinct-clause-asked : goal.returns-in-Distinct-clause-asked
+returns-in-Distinct-clause-asked c = by_command c.args.maker.now c.args.command command.Distinct (map seen c.args.arguments.now) c.distinct.result c.in-Distinct.is c.distinct.ensures
+
+pub returns-in-Distinct-clause-maker : goal.returns-in-Distinct-clause-maker
+returns-in-Distinct-clause-maker c = λ other. stays c.args.maker.now c.distinct.result
 
 pub returns-in-Export-clause-asked : goal.returns-in-Export-clause-asked
 returns-in-Export-clause-asked c = by_command c.args.maker.now c.args.command command.Export (map seen c.args.arguments.now) c.export.result c.in-Export.is c.export.ensures

@@ -1,5 +1,5 @@
 use Rattle.std.proofs.Common.{arith, inl, refl}
-use Rattle.fallowtime_words.specs.declared.table.Argument.TheVariants.{Collection, Selection}
+use Rattle.fallowtime_words.specs.declared.table.Argument.TheVariants.{Collection, Options, Selection}
 use Rattle.fallowtime_requests.specs.Inputs.{seen}
 use Rattle.fallowtime_requests.proofs.CountLemmas.{not_two_or_three}
 use Rattle.fallowtime_requests.proofs.reading.with_selection.Goals as goal
@@ -8,7 +8,7 @@ use Rattle.fallowtime_requests.proofs.reading.with_selection.Goals.{in_default-v
 pub returns-in_default : goal.returns-in_default
 returns-in_default c =
     λ m. inl (
-      not_two_or_three seen Collection Selection c.args.arguments.now (λ x. x) (λ x. x)
+      not_two_or_three seen Collection Selection Options c.args.arguments.now (λ x. x) (λ x. x)
           (λ e. elim c.in_default.branch [ in_default-via-then-arguments-lt2 w ↦ grind arith | in_default-via-else-arguments-lt2+else-arguments-lt3+else-arguments-lt4 w ↦ grind arith ])
           (λ e. elim c.in_default.branch [ in_default-via-then-arguments-lt2 w ↦ grind arith | in_default-via-else-arguments-lt2+else-arguments-lt3+else-arguments-lt4 w ↦ grind arith ]),
       refl,
