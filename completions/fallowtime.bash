@@ -33,7 +33,7 @@ _fallowtime_files() {
 
 _fallowtime() {
     local word=${COMP_WORDS[COMP_CWORD]} before=${COMP_WORDS[COMP_CWORD - 1]} options=--wait front
-    local commands=(insert put replace get set unset update replace-one delete remove find count import export collections check backup import-all export-all edit)
+    local commands=(insert put replace get set unset update replace-one delete find-and-update find-and-replace find-and-delete remove find count distinct import export collections check backup import-all export-all edit)
     COMPREPLY=()
     if [ "$COMP_CWORD" -eq 1 ]; then
         case $word in -*) _fallowtime_among "$word" --help --version --explain ;; *) _fallowtime_files "$word" ;; esac
@@ -62,11 +62,14 @@ _fallowtime() {
     get) front=5 options="--canonical --bson --pretty --wait" ;;
     set) front=7 ;;
     unset) front=6 ;;
-    update) front=6 options="--many --wait" ;;
-    replace-one) front=6 ;;
+    update) front=6 options="--many --upsert --wait" ;;
+    replace-one) front=6 options="--upsert --wait" ;;
     delete) front=5 options="--many --wait" ;;
+    find-and-update | find-and-replace) front=6 options="--sort --skip --limit --fields --without --after --canonical --bson --wait" ;;
+    find-and-delete) front=5 options="--sort --skip --limit --fields --without --canonical --bson --wait" ;;
     find) front=4 options="--sort --skip --limit --fields --without --canonical --bson --pretty --wait" ;;
     count) front=4 ;;
+    distinct) front=5 options="--count --canonical --wait" ;;
     import) front=4 options="--json --wait" ;;
     edit) front=5 ;;
     export | backup | import-all | export-all) front=4 ;;

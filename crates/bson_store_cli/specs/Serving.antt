@@ -1,5 +1,5 @@
 -- What the programs do over a store, and which words ask for nothing.
-use Rattle.std.specs.Prelude.{◌≡◌, ◌⊎◌, ℕ, List, Some, None, Result, Ok, Err}
+use Rattle.std.specs.Prelude.{◌≡◌, ◌⊎◌, ℕ, List, Option, Some, None, Result, Ok, Err}
 use Rattle.sqlite.specs.State.{State}
 use Rattle.bson_base.specs.Device.{Feed, Tally}
 use Rattle.store_table.specs.Beside.{SparesOthers}
@@ -22,9 +22,11 @@ use Rattle.fallowtime_commands.specs.Reports.{plain}
 use Rattle.fallowtime_commands.specs.declared.printing.Form.{Form}
 use Rattle.fallowtime_commands.specs.declared.refusal.Refusal.{Refusal}
 use Rattle.fallowtime_requests.specs.declared.request.Request.{Request}
+use Rattle.fallowtime_messages.specs.Done.{DoesAll}
 use Rattle.fallowtime_session.specs.Leaving.{LeavesTurns}
 use Rattle.fallowtime_session.specs.Sessions.{Turn, Ends}
 use Rattle.fallowtime_texts.specs.declared.made.IdMaker.{IdMaker}
+use Rattle.fallowtime_wire.specs.Exchanges.{Ends as EndsMessages}
 use Rattle.store_model.specs.declared.error.ErrorKind.{ErrorKind}
 use Rattle.store_model.specs.declared.error.StoreError.{StoreError}
 
@@ -53,6 +55,16 @@ session_end (Err kind) = Err (refused kind)
 abbrev pub AnswersLines : IdMaker → IdMaker → Feed → Feed → Tally → Tally → Result (Unit {0}) Ended → State → State → Type 0
 AnswersLines first last fed left before after result old new =
     (done : Result (Unit {0}) ErrorKind) × (result ≡ session_end done) × ((turns : List Turn) × Ends done turns fed left before after × Moves old new (LeavesTurns first last turns old new))
+
+-- messages of the input, over the database of this name, were answered one after the other, up to this end
+abbrev pub AnswersMessages : List ℕ → Feed → Feed → Tally → Tally → Result (Unit {0}) Ended → State → State → Type 0
+AnswersMessages database fed left before after result old new =
+    (done : Result (Unit {0}) ErrorKind) × (result ≡ session_end done) × DoesAll (EndsMessages database done fed left before after) old new
+
+-- so were lines, or, if a database is named, messages
+abbrev pub AnswersRequests : Option (List ℕ) → IdMaker → IdMaker → Feed → Feed → Tally → Tally → Result (Unit {0}) Ended → State → State → Type 0
+AnswersRequests None first last fed left before after result old new = AnswersLines first last fed left before after result old new
+AnswersRequests (Some database) first last fed left before after result old new = (last ≡ first) × AnswersMessages database fed left before after result old new
 
 -- rows of documents, as a store keeps them, are committed, and the other tables are as they were
 abbrev pub IsSoundCopy : State → State → Type 0

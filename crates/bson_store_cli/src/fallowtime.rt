@@ -1,6 +1,6 @@
 //! The program `fallowtime`: one command over a database file, or a session of requests.
 
-ghost use Rattle.std.specs.Prelude.{◌≡◌, ◌⊎◌, Err, None, Result, map, string_bytes};
+ghost use Rattle.std.specs.Prelude.{◌≡◌, ◌⊎◌, Err, None, Result, map, option_map, string_bytes};
 ghost use Rattle.sqlite.specs.Held.{state};
 ghost use Rattle.store_table.specs.Crash.{AddsNothing};
 ghost use Rattle.store_table.specs.Moves.{WasOpen};
@@ -18,7 +18,7 @@ ghost use Rattle.fallowtime_words.specs.Words.{Asked as Asking, IsTask};
 ghost use Rattle.fallowtime_help.specs.Topics.{IsTopic};
 ghost use Rattle.fallowtime_help.specs.declared.topic.Topic.{Topic as About};
 ghost use Rattle.bson_store_cli.specs.Over.{OpensFor};
-ghost use Rattle.bson_store_cli.specs.Serving.{AnswersLines, ServesExport, ServesRequest, plainly};
+ghost use Rattle.bson_store_cli.specs.Serving.{AnswersLines, AnswersMessages, AnswersRequests, ServesExport, ServesRequest, plainly};
 
 use crate::commands::judged;
 use crate::help;
@@ -30,6 +30,7 @@ use fallowtime_front::{Asked, Ended, asked_of, ended_of, form_of, tell};
 use fallowtime_help::{Packing, packing_of, topic_of};
 use fallowtime_requests::{Request, Unread};
 use fallowtime_texts::IdMaker;
+use fallowtime_wire::database_of;
 use fallowtime_words::{Argument, Command, Task, Words, read_words};
 use sqlite::{Alter, Connection};
 use sqlite_disk::{Start, Unknown};
@@ -307,8 +308,8 @@ fn command<I: Source, O: Sink>(
     ask_and_do(rt, words, &mut maker, input, output, packing)
 }
 
-/// The session over an open store.
-fn answer<S: Alter + Drop, I: Source, O: Sink>(
+/// The session of lines over an open store.
+fn answer_lines<S: Alter + Drop, I: Source, O: Sink>(
     alloc: Global,
     store: &mut Store<S>,
     maker: &mut IdMaker,
@@ -327,10 +328,51 @@ fn answer<S: Alter + Drop, I: Source, O: Sink>(
     }
 }
 
+/// The session of MongoDB's messages over an open store.
+fn answer_messages<S: Alter + Drop, I: Source, O: Sink>(
+    alloc: Global,
+    store: &mut Store<S>,
+    database: &str,
+    input: &mut I,
+    output: &mut O,
+) -> Result<(), Ended>
+    requires input { CanFail (I.feed input.old) }
+    requires output { CanRefuse (O.tally output.old) }
+    ensures { AnswersMessages database.now (I.feed input.old) (I.feed input.new) (O.tally output.old)
+        (O.tally output.new) result (store_state S.Store store.old) (store_state S.Store store.new) }
+{
+    match fallowtime_wire::serve(alloc, store, database, input, output) {
+        Ok(()) => Ok(()),
+        Err(kind) => Err(Ended::Refused(Refusal::from(kind))),
+    }
+}
+
+/// The session over an open store: of lines, or, if a database is named, of messages.
+fn answer<S: Alter + Drop, I: Source, O: Sink>(
+    alloc: Global,
+    store: &mut Store<S>,
+    database: Option<&str>,
+    maker: &mut IdMaker,
+    input: &mut I,
+    output: &mut O,
+) -> Result<(), Ended>
+    requires input { CanFail (I.feed input.old) }
+    requires output { CanRefuse (O.tally output.old) }
+    ensures { AnswersRequests (option_map (λ t. t.now) database.entry) maker.old maker.new
+        (I.feed input.old) (I.feed input.new) (O.tally output.old) (O.tally output.new) result
+        (store_state S.Store store.old) (store_state S.Store store.new) }
+{
+    match database {
+        None => answer_lines(alloc, store, maker, input, output),
+        Some(database) => answer_messages(alloc, store, database, input, output),
+    }
+}
+
 /// The session over a connection, which it gives back. It is over any store, for the reason that `over` is.
 fn answer_over<S: Alter + Drop, I: Source, O: Sink>(
     alloc: Global,
     connection: Connection<S>,
+    database: Option<&str>,
     maker: &mut IdMaker,
     input: &mut I,
     output: &mut O,
@@ -338,14 +380,15 @@ fn answer_over<S: Alter + Drop, I: Source, O: Sink>(
     requires input { CanFail (I.feed input.old) }
     requires output { CanRefuse (O.tally output.old) }
     // A store that is refused answers nothing.
-    ensures { OpensFor S.Store connection result.1 (λ opened. AnswersLines maker.old maker.new
-        (I.feed input.old) (I.feed input.new) (O.tally output.old) (O.tally output.new) result.0
-        (state S.Store opened) (state S.Store result.1)) (λ e. (result.0 ≡ Err (Refused (plain e)))
+    ensures { OpensFor S.Store connection result.1 (λ opened. AnswersRequests
+        (option_map (λ t. t.now) database.entry) maker.old maker.new (I.feed input.old)
+        (I.feed input.new) (O.tally output.old) (O.tally output.new) result.0 (state S.Store opened)
+        (state S.Store result.1)) (λ e. (result.0 ≡ Err (Refused (plain e)))
         × (maker.new ≡ maker.old) × (input.new ≡ input.old) × (output.new ≡ output.old)) }
 {
     match Store::open(alloc, connection) {
         Ok(mut store) => {
-            let ended = answer(alloc, &mut store, maker, input, output);
+            let ended = answer(alloc, &mut store, database, maker, input, output);
             (ended, store.close())
         }
         Err((error, connection)) => (Err(Ended::Refused(Refusal::from(error))), connection),
@@ -362,11 +405,12 @@ pub fn is_bare(name: &str) -> bool {
     true
 }
 
-/// Answers the requests of the lines over a file, which is made if it isn't there, except if its name is a single word,
-/// which may be meant for a command.
+/// Answers the requests of the input over a file: lines, or, if a database is named, messages. The file is made if it
+/// isn't there, except if its name is a single word, which may be meant for a command.
 fn session<I: Source, O: Sink>(
     rt: &HostRuntime,
     file: &str,
+    database: Option<&str>,
     seconds: u64,
     input: &mut I,
     output: &mut O,
@@ -383,6 +427,7 @@ fn session<I: Source, O: Sink>(
             let (ended, connection) = answer_over(
                 rt.alloc(),
                 connection,
+                database,
                 &mut maker,
                 input,
                 output,
@@ -417,8 +462,20 @@ fn serve_task<I: Source, O: Sink, F: Sink>(
     let mut packing = None;
     let ended = match task {
         Task::Command(words) => command(rt, &words, input, output, &mut packing),
-        Task::Session { file, seconds } => {
-            session(rt, file, seconds.unwrap_or(PATIENCE), input, output)
+        Task::Session {
+            file,
+            messages,
+            seconds,
+        } => {
+            let database = messages.then_some(database_of(file));
+            session(
+                rt,
+                file,
+                database,
+                seconds.unwrap_or(PATIENCE),
+                input,
+                output,
+            )
         }
     };
     match ended {

@@ -1,17 +1,20 @@
 //! The programs, one under several names. `bson_store` does a command over a database file with words; without, it
 //! reads one document from standard input, keeps it in a new store, and writes what the store exports to standard
 //! output. `fallowtime` does a command over a database file, with texts of JSON in and out, or keeps the file open and
-//! answers the requests of lines. `bson_json` turns BSON documents into lines of Extended JSON, and such lines into BSON.
+//! answers the requests of lines, or the messages of MongoDB's drivers. `bson_json` turns BSON documents into lines of
+//! Extended JSON, and such lines into BSON.
 #![tactic(auto)]
 
 ghost use Rattle.std.specs.Prelude.{◌≡◌, ◌⊎◌, Bool};
 ghost use Rattle.terminal_text.specs.Writing.{Begins};
 
+mod closed;
 mod commands;
 mod fallowtime;
 mod help;
 mod stack;
 
+use crate::closed::{Hushed, Reader, Watched};
 use bson_store::{Counted, ErrorKind};
 use cli_convert::convert;
 use cli_files::{misuse, refuse, unread};
@@ -42,19 +45,23 @@ fn run_words<O: Write>(rt: &HostRuntime, words: &[String], output: &mut Counted<
 }
 
 /// Reports a refusal if nothing was reported yet, and returns the program's status.
-fn report(rt: &HostRuntime, kind: ErrorKind) -> u8
+fn report<F: Write + Drop>(faults: F, kind: ErrorKind) -> u8
     ensures { result ≡ 1 }
 {
-    let mut faults = Counted::new(rt.stderr());
-    refuse(&mut faults, kind)
+    refuse(&mut Counted::new(faults), kind)
 }
 
 /// Does what the words ask of bson_json, and returns the program's status.
-fn run_conversion<O: Write>(rt: &HostRuntime, words: &[String], output: &mut Counted<O>) -> u8
+fn run_conversion<O: Write>(
+    rt: &HostRuntime,
+    words: &[String],
+    output: &mut Counted<O>,
+    reader: &Reader,
+) -> u8
     requires { output.old.failed ≡ 0 }
 {
     let mut input = Counted::new(rt.stdin());
-    let mut faults = Counted::new(rt.stderr());
+    let mut faults = Counted::new(Hushed::new(rt.stderr(), reader));
     convert(rt.alloc(), words, &mut input, output, &mut faults)
 }
 
@@ -68,12 +75,12 @@ fn printed_on<W: Write>(rt: &HostRuntime, writer: W) -> Output<W>
 
 /// Writes the gathered output, and returns the program's status: a failure here is one of the output, like that of any
 /// write before it.
-fn let_out<W: Write + Drop>(rt: &HostRuntime, mut output: Counted<W>, status: u8) -> u8
+fn let_out<W: Write + Drop, F: Write + Drop>(mut output: Counted<W>, faults: F, status: u8) -> u8
     // A status that reports something stays.
     ensures { (result ≡ status) ⊎ ((status ≡ 0) × (result ≡ 1)) }
 {
     match output.device.flush() {
-        Err(_) if status == 0 => report(rt, ErrorKind::Writer),
+        Err(_) if status == 0 => report(faults, ErrorKind::Writer),
         _ => status,
     }
 }
@@ -81,46 +88,57 @@ fn let_out<W: Write + Drop>(rt: &HostRuntime, mut output: Counted<W>, status: u8
 /// The program bson_store, over the words after its name; its output is gathered.
 fn run_store(rt: &HostRuntime, words: &[String]) -> u8 {
     let Ok(writer) = BufWriter::with_capacity(rt.alloc(), OUTPUT_ROOM, rt.stdout()) else {
-        return report(rt, ErrorKind::Memory);
+        return report(rt.stderr(), ErrorKind::Memory);
     };
     let mut output = Counted::new(printed_on(rt, writer));
     let status = run_words(rt, words, &mut output);
-    let_out(rt, output, status)
+    let_out(output, rt.stderr(), status)
 }
 
 /// The program bson_json, over the words after its name; its output is gathered.
 fn run_json(rt: &HostRuntime, words: &[String]) -> u8 {
-    let Ok(writer) = BufWriter::with_capacity(rt.alloc(), OUTPUT_ROOM, rt.stdout()) else {
-        return report(rt, ErrorKind::Memory);
+    let reader = Reader::new();
+    let watched = Watched::new(rt.stdout(), &reader);
+    let Ok(writer) = BufWriter::with_capacity(rt.alloc(), OUTPUT_ROOM, watched) else {
+        return report(rt.stderr(), ErrorKind::Memory);
     };
     let mut output = Counted::new(printed_on(rt, writer));
-    let status = run_conversion(rt, words, &mut output);
-    let_out(rt, output, status)
+    let status = run_conversion(rt, words, &mut output, &reader);
+    reader.status(let_out(output, Hushed::new(rt.stderr(), &reader), status))
 }
 
 /// Does what the words ask of fallowtime, and returns the program's status.
-fn run_fallowtime<O: Write>(rt: &HostRuntime, words: &[String], output: &mut Counted<O>) -> u8
+fn run_fallowtime<O: Write>(
+    rt: &HostRuntime,
+    words: &[String],
+    output: &mut Counted<O>,
+    reader: &Reader,
+) -> u8
     requires { output.old.failed ≡ 0 }
 {
     let mut input = Counted::new(rt.stdin());
-    let mut faults = Counted::new(rt.stderr());
+    let mut faults = Counted::new(Hushed::new(rt.stderr(), reader));
     fallowtime::serve(rt, words, &mut input, output, &mut faults)
 }
 
 /// The program fallowtime over one command, by the words after its name; its output is gathered.
 fn run_gathered(rt: &HostRuntime, words: &[String]) -> u8 {
-    let Ok(writer) = BufWriter::with_capacity(rt.alloc(), OUTPUT_ROOM, rt.stdout()) else {
-        return report(rt, ErrorKind::Memory);
+    let reader = Reader::new();
+    let watched = Watched::new(rt.stdout(), &reader);
+    let Ok(writer) = BufWriter::with_capacity(rt.alloc(), OUTPUT_ROOM, watched) else {
+        return report(rt.stderr(), ErrorKind::Memory);
     };
     let mut output = Counted::new(printed_on(rt, writer));
-    let status = run_fallowtime(rt, words, &mut output);
-    let_out(rt, output, status)
+    let status = run_fallowtime(rt, words, &mut output, &reader);
+    reader.status(let_out(output, Hushed::new(rt.stderr(), &reader), status))
 }
 
 /// The program fallowtime over many requests, by the words after its name; every answer is written at once.
 fn run_at_once(rt: &HostRuntime, words: &[String]) -> u8 {
-    let mut output = Counted::new(printed_on(rt, rt.stdout()));
-    run_fallowtime(rt, words, &mut output)
+    let reader = Reader::new();
+    let mut output = Counted::new(printed_on(rt, Watched::new(rt.stdout(), &reader)));
+    let status = run_fallowtime(rt, words, &mut output, &reader);
+    reader.status(status)
 }
 
 /// The program fallowtime, over the words after its name.
@@ -153,7 +171,7 @@ fn start(rt: &HostRuntime, words: &[String]) -> u8 {
 
 fn main(rt: HostRuntime) -> ExitCode {
     if stack::reserve(&rt).is_err() {
-        return ExitCode::from(report(&rt, ErrorKind::Memory));
+        return ExitCode::from(report(rt.stderr(), ErrorKind::Memory));
     }
     let status = match words_of(&rt) {
         Ok(words) => start(&rt, words.as_slice()),

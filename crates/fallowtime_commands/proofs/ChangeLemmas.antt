@@ -39,7 +39,7 @@ use Rattle.fallowtime_commands.specs.declared.answer.Answer.{Answer}
 use Rattle.fallowtime_commands.specs.declared.changing.Unmade.{Unmade}
 use Rattle.fallowtime_commands.specs.declared.changing.Unmade.TheVariants as unmade
 
-abbrev Bodies : Type 0
+abbrev pub Bodies : Type 0
 Bodies = Vec (Vec ℕ Global) Global
 
 -- ---- one document
@@ -74,7 +74,7 @@ module _ (Outcome : Result Members UpdateError → Type 0) (i : ℕ) where
 
 -- ---- the first or all
 
-chosen_kept : (many : Bool) (ds : Documents) → AreKept ds → AreKept (chosen many ds)
+pub chosen_kept : (many : Bool) (ds : Documents) → AreKept ds → AreKept (chosen many ds)
 chosen_kept true ds kept = kept
 chosen_kept false [] kept = tt
 chosen_kept false (d ∷ ds) kept = (kept.0, tt)
@@ -148,21 +148,21 @@ memory_can_be work.Remove why is = subst (CanBe work.Remove) (sym is) tt
 
 -- ---- what is found
 
-keeps_kept : (q : Asked) (ds out : Documents) → AreKept ds → Keeps q ds out → AreKept out
+pub keeps_kept : (q : Asked) (ds out : Documents) → AreKept ds → Keeps q ds out → AreKept out
 keeps_kept q [] out kept is = subst AreKept (sym is) tt
 keeps_kept q (d ∷ ds) out kept (inl (answers, (rest, is, more))) = subst AreKept (sym is) (kept.0, keeps_kept q ds rest kept.1 more)
 keeps_kept q (d ∷ ds) out kept (inr (other, more)) = keeps_kept q ds out kept.1 more
 
 -- the bodies are those of the kept documents that are meant; the rows stay
-record Found (n : List ℕ) (q : Asked) (many : Bool) (bodies : Bodies) (docs after : List TableRow) (a : DocumentTable) : Type 0 where
-  same : after ≡ docs
-  good : IsName n
-  documents : Documents
-  meant : AreMeant n q many a documents
-  are_kept : AreKept documents
-  are : bytes_of_each bodies.items ≡ map encode documents
+pub record Found (n : List ℕ) (q : Asked) (many : Bool) (bodies : Bodies) (docs after : List TableRow) (a : DocumentTable) : Type 0 where
+  pub same : after ≡ docs
+  pub good : IsName n
+  pub documents : Documents
+  pub meant : AreMeant n q many a documents
+  pub are_kept : AreKept documents
+  pub are : bytes_of_each bodies.items ≡ map encode documents
 
-found_are : (n : List ℕ) (form : Form) (q : Asked) (many : Bool) (bodies : Bodies) (docs after : List TableRow) (a : DocumentTable) → Reads form q → Represents docs a → AskedFrom (AreChosen many) n form (Ok bodies) docs after
+pub found_are : (n : List ℕ) (form : Form) (q : Asked) (many : Bool) (bodies : Bodies) (docs after : List TableRow) (a : DocumentTable) → Reads form q → Represents docs a → AskedFrom (AreChosen many) n form (Ok bodies) docs after
     → Found n q many bodies docs after a
 found_are n form q many bodies docs after a reads shown h = by (h q reads)
   where
@@ -179,7 +179,7 @@ found_are n form q many bodies docs after a reads shown h = by (h q reads)
         }
     by (inr (bad, is, stays)) = absurd (cc)
 
-unfound_are : (n : List ℕ) (form : Form) (q : Asked) (many : Bool) (e : StoreError) (docs after : List TableRow) (a : DocumentTable) → Reads form q → Represents docs a → AskedFrom (AreChosen many) n form (Err e) docs after
+pub unfound_are : (n : List ℕ) (form : Form) (q : Asked) (many : Bool) (e : StoreError) (docs after : List TableRow) (a : DocumentTable) → Reads form q → Represents docs a → AskedFrom (AreChosen many) n form (Err e) docs after
     → IsUnfound n (Err e) × (after ≡ docs)
 unfound_are n form q many e docs after a reads shown h = by (h q reads)
   where
@@ -189,11 +189,11 @@ unfound_are n form q many e docs after a reads shown h = by (h q reads)
 
 -- ---- what comes of it
 
-made_of_none : (n : List ℕ) (w : Work) (ds : Documents) (why : Unmade) (docs : List TableRow) → StopsAt n w ds why → Changes n w ds (outcome_of why) docs docs
+pub made_of_none : (n : List ℕ) (w : Work) (ds : Documents) (why : Unmade) (docs : List TableRow) → StopsAt n w ds why → Changes n w ds (outcome_of why) docs docs
 made_of_none n w ds (unmade.Update i e) docs h = (h, refl)
 made_of_none n w ds (unmade.Store e) docs h = inl (h, refl)
 
-applied : (n : List ℕ) (w : Work) (ds : Documents) (xs : List Edit) (k : ℕ) (o : Result Answer StoreError) (docs after : List TableRow) → k ≡ length ds → AreEdits n w ds xs
+pub applied : (n : List ℕ) (w : Work) (ds : Documents) (xs : List Edit) (k : ℕ) (o : Result Answer StoreError) (docs after : List TableRow) → k ≡ length ds → AreEdits n w ds xs
     → Applies w xs k o docs after → Changes n w ds o docs after
 applied n (work.Update steps) ds xs k (Ok x) docs after count edits (is, does) =
     let w = work.Update steps in
@@ -226,14 +226,14 @@ unmade_is_change w (unmade.Store e) can = tt
 -- ---- rows
 
 module _ (n : List ℕ) (form : Form) (w : Work) (many : Bool) where
-  abbrev Finding : Bodies → List TableRow → List TableRow → Type 0
+  abbrev pub Finding : Bodies → List TableRow → List TableRow → Type 0
   Finding found = AskedFrom (AreChosen many) n form (Ok found)
 
   -- it stops there, whatever documents have these bodies
-  abbrev AllStop : Bodies → Unmade → Type 0
+  abbrev pub AllStop : Bodies → Unmade → Type 0
   AllStop bodies why = (ds : Documents) → AreKept ds → bytes_of_each bodies.items ≡ map encode ds → StopsAt n w ds why
 
-  abbrev AllHave : Bodies → List Edit → Type 0
+  abbrev pub AllHave : Bodies → List Edit → Type 0
   AllHave bodies xs = (ds : Documents) → AreKept ds → bytes_of_each bodies.items ≡ map encode ds → AreEdits n w ds xs
 
   pub unfound_moves : (s t : State) (e : StoreError) → Moves s t (AskedFrom (AreChosen many) n form (Err e)) → Moves s t (ChangesFound n form w many (Err e))

@@ -1,5 +1,5 @@
 -- Which databases a crash may leave after a request.
-use Rattle.std.proofs.Common.{Bool, List, ℕ, Some, inl, inr}
+use Rattle.std.proofs.Common.{Bool, List, [], ◌∷◌, ℕ, Some, inl, inr}
 use Rattle.sqlite.specs.Effect.{Database}
 use Rattle.sqlite.specs.State.{State, HasCleanDisk}
 use Rattle.sqlite_trees.specs.Tree.{Trees}
@@ -9,7 +9,7 @@ use Rattle.store_table.specs.Beside.{ShowsOthers}
 use Rattle.store_table.specs.Moves.{Stands}
 use Rattle.store_table.specs.Rows.{TableRow}
 use Rattle.store_model.proofs.LeftLemmas.{left_more}
-use Rattle.store_model.specs.Reading.{Reading}
+use Rattle.store_model.specs.Reading.{Documents, Reading}
 use Rattle.store_model.specs.State as model
 use Rattle.store_model.specs.Table.{DocumentTable, state_of}
 use Rattle.store_question.specs.Reads.{Form, form_of}
@@ -17,14 +17,22 @@ use Rattle.bson_store.specs.Left.{Holds}
 use Rattle.bson_store.specs.Whole.{HoldsDone}
 use Rattle.bson_store.specs.declared.edit.Edit.{Edit}
 use Rattle.bson_store.specs.Shown.{Represents}
-use Rattle.fallowtime_commands.specs.Left.{LeavesIn, LeavesRequest, LeftByRequest, LeftIn, OfCall, OfPut, OfRequest, OfSet, OfStored, OfChange, Unmoved, Ways}
+use Rattle.fallowtime_commands.specs.Left.{LeavesIn, LeavesRequest, LeftByRequest, LeftIn, OfCall, OfPut, OfRequest, OfSet, OfStored, OfChange, OfFound, Unmoved, Ways, LeftByUpsert, OfUpsert}
+use Rattle.fallowtime_requests.specs.declared.request.Otherwise.{Otherwise}
+use Rattle.fallowtime_requests.specs.declared.request.Otherwise.TheVariants as otherwise
 use Rattle.fallowtime_requests.specs.declared.request.Request.{Request}
 use Rattle.fallowtime_requests.specs.declared.request.Request.TheVariants as request
+use Rattle.fallowtime_requests.specs.declared.request.Wanted.{Wanted}
 use Rattle.fallowtime_requests.specs.declared.request.Work.{Work}
 
 -- where more is left of each call, more is left in this way
 abbrev Grows : Ways → Type 1
 Grows P = (From Into : DocumentTable → model.Call → Type 0) (Done : DocumentTable → List Edit → Type 0) (Was Is : Type 0) → ((b : DocumentTable) (call : model.Call) → From b call → Into b call) → (Was → Is) → (a : DocumentTable) → P From Done Was a → P Into Done Is a
+
+more_left : (From Into : model.Call → Type 0) (Done : List Edit → Type 0) (n : List ℕ) (w : Work) (u : Otherwise) (ds : Documents) → ((call : model.Call) → From call → Into call) → LeftByUpsert From Done n w u ds → LeftByUpsert Into Done n w u ds
+more_left From Into Done n w (otherwise.Insert id d) [] each (x, reads, h) = (x, reads, each (model.insert model.in_bytes x) h)
+more_left From Into Done n w (otherwise.Refuse e) [] each h = absurd h
+more_left From Into Done n w u (d ∷ ds) each h = h
 
 -- so more is left of a request
 module _ (Same More : Type 0) (same : Same → More) (Of Then : Ways → Type 0) (goes : (P : Ways) → Grows P → Of P → Then P) (n : List ℕ) (r : model.Reply) where
@@ -52,6 +60,12 @@ module _ (Same More : Type 0) (same : Same → More) (Of Then : Ways → Type 0)
   of_change : (form : Form) (w : Work) (many : Bool) → OfChange Same Of n r form w many → OfChange More Then n r form w many
   of_change form w many h = goes _ (λ From Into Done Was Is each was a h q reads. elim (h q reads) [ inl refused ↦ inl (refused.0, was refused.1) | inr done ↦ inr done ]) h
 
+  of_found : (form : Form) (w : Wanted) (k : Work) → OfFound Same Of n r form w k → OfFound More Then n r form w k
+  of_found form w k h = goes _ (λ From Into Done Was Is each was a h q reads. elim (h q reads) [ inl early ↦ inl (early.0, was early.1) | inr done ↦ inr done ]) h
+
+  of_upsert : (form : Form) (w : Work) (many : Bool) (u : Otherwise) → OfUpsert Same Of n r form w many u → OfUpsert More Then n r form w many u
+  of_upsert form w many u h = goes _ (λ From Into Done Was Is each was a h q reads. elim (h q reads) [ inl refused ↦ inl (refused.0, was refused.1) | inr (ds, meant, left) ↦ inr (ds, meant, more_left (From a) (Into a) (Done a) n w u ds (each a) left) ]) h
+
   of_request : (q : Request) → OfRequest Same Of n r q → OfRequest More Then n r q
   of_request (request.Insert id d) h = of_stored (model.insert model.in_bytes) (content d) h
   of_request (request.Put d) h = of_put (content d) h
@@ -59,11 +73,14 @@ module _ (Same More : Type 0) (same : Same → More) (Of Then : Ways → Type 0)
   of_request (request.Set id key v) h = of_set (view id) key.now (view v) h
   of_request (request.Unset id key) h = of_call (model.unset (view id) key.now) h
   of_request (request.Change q w many) h = of_change (form_of q) w many h
+  of_request (request.FindAndChange q w k) h = of_found (form_of q) w k h
+  of_request (request.Upsert q w many u) h = of_upsert (form_of q) w many u h
   of_request (request.Remove id) h = of_call (model.remove (view id)) h
   of_request (request.Import stream) h = λ ds stop reads. of_call (model.import ds stop) (h ds stop reads)
   of_request (request.Get id) h = same h
   of_request (request.Find f a) h = same h
   of_request (request.Count f) h = same h
+  of_request (request.Distinct path f counts) h = same h
   of_request (request.Index path) h = same h
   of_request (request.DropIndex path) h = same h
   of_request request.Collections h = same h

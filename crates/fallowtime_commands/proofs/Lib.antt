@@ -5,11 +5,14 @@ mod KeepLemmas
 mod PutLemmas
 mod SetLemmas
 mod ChangeLemmas
+mod FindingLemmas
 mod IndexLemmas
 mod ReplaceLemmas
 mod ReturnLemmas
 mod LookLemmas
 mod MeantLemmas
+mod OutcomeLemmas
 mod TotalLemmas
+mod UpsertLemmas
 mod WantLemmas
 pub mod CrashLemmas

@@ -14,11 +14,15 @@ no_id f (Ok (answer.Number n)) text h = tt
 no_id f (Ok (answer.Document body)) text h = tt
 no_id f (Ok (answer.Documents bodies)) text h = tt
 no_id f (Ok (answer.Names names)) text h = tt
+no_id f (Ok (answer.Values cs counts)) text h = tt
 no_id f (Ok answer.Nothing) text h = absurd h
 no_id f (Ok (answer.Id v)) text h = absurd h
 no_id f (Ok (answer.Flag b)) text h = absurd h
+no_id f (Ok (answer.Found found)) text h = absurd h
 no_id f (Ok (answer.Updated m c)) text h = absurd h
 no_id f (Ok (answer.NotUpdated i e)) text h = absurd h
+no_id f (Ok (answer.Upserted v)) text h = absurd h
+no_id f (Ok (answer.NotUpserted e)) text h = absurd h
 no_id f (Err e) text h = tt
 
 -- what is told is what was returned

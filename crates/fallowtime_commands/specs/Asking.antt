@@ -3,6 +3,10 @@ use Rattle.std.specs.Prelude.{◌≡◌, ℕ, List, [], ◌∷◌, map, length, 
 use Rattle.std.specs.declared.alloc.Global.{Global}
 use Rattle.bson_bytes.specs.Encode.{encode}
 use Rattle.store_asked.specs.Asking.{AskedFrom}
+use Rattle.store_distinct.specs.Counted.{AreDistinct, Holds, path_in}
+use Rattle.store_distinct.specs.declared.counted.Counted.{Counted}
+use Rattle.store_distinct.specs.declared.distinct.Distinct.{Distinct}
+use Rattle.store_model.specs.Filter.{Path}
 use Rattle.store_model.specs.Reading.{Documents}
 use Rattle.store_model.specs.State as model
 use Rattle.store_model.specs.Table.{DocumentTable, state_of}
@@ -17,6 +21,8 @@ use Rattle.bson_store.specs.Refusals.{as_number, reply_by}
 use Rattle.bson_store.specs.Shown.{Represents}
 use Rattle.fallowtime_requests.specs.Fields.{left_by}
 use Rattle.fallowtime_requests.specs.declared.request.Wanted.{Wanted}
+use Rattle.fallowtime_commands.specs.declared.answer.Answer.{Answer}
+use Rattle.fallowtime_commands.specs.declared.answer.Answer.TheVariants as answer
 use Rattle.fallowtime_commands.specs.declared.meant.Meant.{Meant}
 
 -- all of them, or the first
@@ -46,6 +52,22 @@ Finds n form w r old new = (outcome : Result (Vec (Vec ℕ Global) Global) Store
 -- how many they are
 abbrev pub Counts : List ℕ → Form → model.Reply → List TableRow → List TableRow → Type 0
 Counts n form r old new = (outcome : Result ℕ StoreError) × (r ≡ reply_by as_number outcome) × AskedFrom IsNumberOf n form outcome old new
+
+-- the different values at the path of these documents, each with how many of them have it
+abbrev pub AreCounted : Path → Vec Counted Global → Documents → Type 0
+AreCounted p cs ds = AreDistinct p ds cs.items
+
+-- of the documents they were counted, at the same path as before
+abbrev pub TookValues : Distinct → Distinct → Documents → Type 0
+TookValues first t out = (path_in t ≡ path_in first) × Holds t out
+
+abbrev pub values_by : Bool → Result (Vec Counted Global) StoreError → Result Answer StoreError
+values_by counts (Ok cs) = Ok (answer.Values cs counts)
+values_by counts (Err e) = Err e
+
+-- those of the documents of the collection n that answer the question
+abbrev pub Differs : List ℕ → Form → Path → Bool → Result Answer StoreError → List TableRow → List TableRow → Type 0
+Differs n form p counts o old new = (outcome : Result (Vec Counted Global) StoreError) × (o ≡ values_by counts outcome) × AskedFrom (AreCounted p) n form outcome old new
 
 -- ---- all collections
 

@@ -1,9 +1,8 @@
 -- Changes of documents: each becomes what an update makes of it, or another document, or is removed, all of them in one
 -- step, or none.
-use Rattle.std.specs.Prelude.{◌≡◌, ◌⊎◌, ℕ, List, [], ◌∷◌, ◌++◌, length, Bool, false, if◌then◌else◌, IsSomeAnd, Option, Some, None, Result, Ok, Err, string_bytes}
+use Rattle.std.specs.Prelude.{◌≡◌, ◌⊎◌, ℕ, List, [], ◌∷◌, ◌++◌, length, Bool, false, if◌then◌else◌, Option, Some, None, Result, Ok, Err, string_bytes}
 use Rattle.bson_base.specs.Value.{Value, Members, has_key, look_up, member, put}
 use Rattle.bson_bytes.specs.Encode.{encode}
-use Rattle.bson_meaning.specs.Meaning.{Same}
 use Rattle.bson_model.specs.View.{content, view}
 use Rattle.store_model.specs.Reading.{Documents}
 use Rattle.store_model.specs.Refusal.{refusal, refusal_at}
@@ -29,6 +28,7 @@ use Rattle.bson_store.specs.declared.edit.Edit.TheVariants.{ReplaceRaw, Remove}
 use Rattle.bson_store.specs.declared.edit.ListRefusal.{ListRefusal}
 use Rattle.fallowtime_commands.specs.Asking.{chosen}
 use Rattle.fallowtime_commands.specs.Storing.{IsFit, IsUnkept}
+use Rattle.fallowtime_requests.specs.Upserts.{HasOtherId}
 use Rattle.fallowtime_requests.specs.declared.request.Work.{Work}
 use Rattle.fallowtime_requests.specs.declared.request.Work.TheVariants as work
 use Rattle.fallowtime_commands.specs.declared.answer.Answer.{Answer}
@@ -41,10 +41,6 @@ use Rattle.fallowtime_commands.specs.declared.changing.Unmade.TheVariants as unm
 -- what becomes of a document, or why nothing does: by an update
 abbrev pub Updates : List Plan → Members → Result Members UpdateError → Type 0
 Updates plans d r = updated false plans d ≡ r
-
--- it has an `_id` of another meaning
-abbrev pub HasOtherId : Value → Members → Type 0
-HasOtherId id e = IsSomeAnd (look_up id_key e) (λ own. Same own id → ⊥)
 
 -- the document with this `_id`, in the place of its own one, or in front
 abbrev pub identified_by : Value → Members → Members

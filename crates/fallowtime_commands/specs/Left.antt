@@ -1,5 +1,5 @@
 -- Which databases a crash may leave after a request.
-use Rattle.std.specs.Prelude.{◌⊎◌, List, ℕ, Bool, Option, Some, Result, Ok, Err}
+use Rattle.std.specs.Prelude.{◌⊎◌, List, [], ◌∷◌, ℕ, Bool, Option, Some, Result, Ok, Err}
 use Rattle.sqlite.specs.Effect.{Database}
 use Rattle.sqlite.specs.State.{State, Survives}
 use Rattle.sqlite_trees.specs.Tree.{Trees}
@@ -18,11 +18,15 @@ use Rattle.bson_store.specs.Left.{Along, Holds}
 use Rattle.bson_store.specs.Whole.{HoldsDone, LeavesWhole}
 use Rattle.bson_store.specs.declared.edit.Edit.{Edit}
 use Rattle.bson_store.specs.declared.edit.ListRefusal.{ListRefusal}
-use Rattle.fallowtime_commands.specs.Changing.{AreEdits, AreMeant}
+use Rattle.fallowtime_commands.specs.Changing.{AreEdits, AreMeant, Becomes, listed}
+use Rattle.fallowtime_commands.specs.Finding.{IsFirstFound}
 use Rattle.fallowtime_commands.specs.declared.answer.Answer.{Answer}
 use Rattle.fallowtime_commands.specs.Setting.{Gets}
 use Rattle.fallowtime_commands.specs.Storing.{FindsNone, HasReplaced, IsStopped}
 use Rattle.fallowtime_requests.specs.declared.request.Request.{Request}
+use Rattle.fallowtime_requests.specs.declared.request.Wanted.{Wanted}
+use Rattle.fallowtime_requests.specs.declared.request.Otherwise.{Otherwise}
+use Rattle.fallowtime_requests.specs.declared.request.Otherwise.TheVariants as otherwise
 use Rattle.fallowtime_requests.specs.declared.request.Work.{Work}
 use Rattle.fallowtime_requests.specs.declared.request.Request.TheVariants as request
 
@@ -31,6 +35,16 @@ use Rattle.fallowtime_requests.specs.declared.request.Request.TheVariants as req
 -- left before.
 abbrev pub Ways : Type 1
 Ways = (DocumentTable → model.Call → Type 0) → (DocumentTable → List Edit → Type 0) → Type 0 → DocumentTable → Type 0
+
+-- what an insertion leaves, if there is one
+abbrev pub LeftByOne : (model.Call → Type 0) → Otherwise → Type 0
+LeftByOne From (otherwise.Insert id d) = (x : Reading) × ReadsBytes (encode (content d)) x × From (model.insert model.in_bytes x)
+LeftByOne From (otherwise.Refuse e) = ⊥
+
+-- what is left of it if these documents are meant: the state at the end of all their changes; or that, if there is none
+abbrev pub LeftByUpsert : (model.Call → Type 0) → (List Edit → Type 0) → List ℕ → Work → Otherwise → Documents → Type 0
+LeftByUpsert From Done n w u [] = LeftByOne From u
+LeftByUpsert From Done n w u (d ∷ ds) = (xs : List Edit) × AreEdits n w (d ∷ ds) xs × Done xs
 
 -- Of a request on the collection n with this reply: `Same`, no more than what could be left before, or `Of` such a way.
 module _ (Same : Type 0) (Of : Ways → Type 0) (n : List ℕ) (r : model.Reply) where
@@ -61,6 +75,20 @@ module _ (Same : Type 0) (Of : Ways → Type 0) (n : List ℕ) (r : model.Reply)
       (q : Asked) → Reads form q
       → (IsRefusal r × Was) ⊎ ((ds : Documents) × (xs : List Edit) × AreMeant n q many a ds × AreEdits n w ds xs × Done a xs))
 
+  -- a change of the first document that is found: no more than before, and if it was accepted only if none was found; or
+  -- the state at the end of the change
+  abbrev pub OfFound : Form → Wanted → Work → Type 0
+  OfFound form w k = Of (λ From Done Was a.
+      (q : Asked) → Reads form q
+      → ((IsRefusal r ⊎ IsFirstFound n q w.arrangement a []) × Was)
+      ⊎ ((d : Members) × (change : Option Edit) × IsFirstFound n q w.arrangement a (d ∷ []) × Becomes n k d change × Done a (listed change)))
+
+  -- the same with a document that is put in if none answers
+  abbrev pub OfUpsert : Form → Work → Bool → Otherwise → Type 0
+  OfUpsert form w many u = Of (λ From Done Was a.
+      (q : Asked) → Reads form q
+      → (IsRefusal r × Was) ⊎ ((ds : Documents) × AreMeant n q many a ds × LeftByUpsert (From a) (Done a) n w u ds))
+
   -- a question or an index leaves no more than before
   abbrev pub OfRequest : Request → Type 0
   OfRequest (request.Insert id d) = OfStored (model.insert model.in_bytes) (content d)
@@ -69,6 +97,8 @@ module _ (Same : Type 0) (Of : Ways → Type 0) (n : List ℕ) (r : model.Reply)
   OfRequest (request.Set id key v) = OfSet (view id) key.now (view v)
   OfRequest (request.Unset id key) = OfCall (model.unset (view id) key.now)
   OfRequest (request.Change q w many) = OfChange (form_of q) w many
+  OfRequest (request.FindAndChange q w k) = OfFound (form_of q) w k
+  OfRequest (request.Upsert q w many u) = OfUpsert (form_of q) w many u
   OfRequest (request.Remove id) = OfCall (model.remove (view id))
   OfRequest (request.Import stream) = (ds : Documents) (stop : Option ErrorKind) → ReadsStream stream.items ds stop → OfCall (model.import ds stop)
   OfRequest _ = Same
@@ -100,6 +130,17 @@ LeavesSet n id k v r old new = OfSet (Unmoved old new) (LeavesIn old new n r) n 
 
 abbrev pub LeavesChange : List ℕ → Form → Work → Bool → model.Reply → State → State → Type 0
 LeavesChange n form w many r old new = OfChange (Unmoved old new) (LeavesIn old new n r) n r form w many
+
+abbrev pub LeavesFound : List ℕ → Form → Wanted → Work → model.Reply → State → State → Type 0
+LeavesFound n form w k r old new = OfFound (Unmoved old new) (LeavesIn old new n r) n r form w k
+
+-- if no document answers: what an insertion leaves, or no more than before, after a refusal
+abbrev pub LeavesEnd : List ℕ → Otherwise → model.Reply → State → State → Type 0
+LeavesEnd n (otherwise.Insert id d) r old new = LeavesStored n (model.insert model.in_bytes) (content d) r old new
+LeavesEnd n (otherwise.Refuse e) r old new = IsRefusal r × Unmoved old new
+
+abbrev pub LeavesUpsert : List ℕ → Form → Work → Bool → Otherwise → model.Reply → State → State → Type 0
+LeavesUpsert n form w many u r old new = OfUpsert (Unmoved old new) (LeavesIn old new n r) n r form w many u
 
 -- what a crash leaves of a list of changes with this outcome
 abbrev pub LeavesApplied : List Edit → Result Answer StoreError → State → State → Type 0

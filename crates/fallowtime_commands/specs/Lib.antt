@@ -1,9 +1,11 @@
 pub mod Asking
 pub mod Changing
 pub mod Executing
+pub mod Finding
 pub mod Left
 pub mod Performing
 pub mod Printing
 pub mod Reports
 pub mod Setting
 pub mod Storing
+pub mod Upserting

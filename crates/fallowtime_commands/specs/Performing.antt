@@ -1,13 +1,15 @@
 -- What a request does to the rows of a store.
-use Rattle.std.specs.Prelude.{◌≡◌, ℕ, List, map, Result, Ok, Err, Some, string_bytes}
+use Rattle.std.specs.Prelude.{◌≡◌, ℕ, Bool, List, length, map, Result, Ok, Err, Some, None, string_bytes, ◌⊎◌, true, is_some, Option}
+use Rattle.bson_base.specs.Value.{Value}
 use Rattle.bson_model.specs.View.{content, view}
 use Rattle.bson_model.specs.declared.bson.Bson.{Bson}
 use Rattle.store_table.specs.Rows.{TableRow}
 use Rattle.store_filter.specs.Filters.{path_of}
 use Rattle.store_model.specs.Reading.{ReadsStream}
 use Rattle.store_model.specs.State as model
+use Rattle.store_model.specs.State.{IsName}
 use Rattle.store_model.specs.declared.error.ErrorKind.{ErrorKind}
-use Rattle.store_model.specs.declared.error.ErrorKind.TheVariants.{BadKey}
+use Rattle.store_model.specs.declared.error.ErrorKind.TheVariants.{BadKey, BadName, Memory}
 use Rattle.store_model.specs.declared.error.StoreError.{StoreError}
 use Rattle.store_question.specs.Reads.{form_of}
 use Rattle.bson_store.specs.Calls.{Does, HasIndex}
@@ -18,10 +20,14 @@ use Rattle.bson_store.specs.Refusals.{as_done, reply_by}
 use Rattle.bson_store.specs.declared.store.Store.{Store}
 use Rattle.fallowtime_commands.specs.declared.answer.Answer.{Answer}
 use Rattle.fallowtime_commands.specs.declared.answer.Answer.TheVariants as answer
-use Rattle.fallowtime_commands.specs.Asking.{Counts, CountsAll, Finds}
+use Rattle.fallowtime_commands.specs.Asking.{Counts, CountsAll, Differs, Finds}
+use Rattle.fallowtime_commands.specs.Finding.{FindsAndChanges, IsFound}
 use Rattle.fallowtime_commands.specs.Setting.{Sets}
-use Rattle.fallowtime_commands.specs.Storing.{IsUnasked, Puts, Stores}
+use Rattle.fallowtime_commands.specs.Storing.{Puts, Stores}
 use Rattle.fallowtime_commands.specs.Changing.{ChangesFound}
+use Rattle.fallowtime_commands.specs.Upserting.{UpsertsFound}
+use Rattle.fallowtime_requests.specs.declared.request.Otherwise.{Otherwise}
+use Rattle.fallowtime_requests.specs.declared.request.Otherwise.TheVariants as otherwise
 use Rattle.fallowtime_requests.specs.declared.request.Request.{Request}
 use Rattle.fallowtime_requests.specs.declared.request.Request.TheVariants as request
 use Rattle.fallowtime_requests.specs.declared.request.Work.{Work}
@@ -29,8 +35,8 @@ use Rattle.fallowtime_requests.specs.declared.request.Work.TheVariants as work
 
 -- ---- answers
 
--- what a command returns as the store's reply; an update that isn't made of a document is refused as a key that can't be
--- set
+-- what a command returns as the store's reply; an update that isn't made of a document, or of a query's equality fields, is
+-- refused as a key that can't be set
 abbrev pub reply_of : Result Answer StoreError → model.Reply
 reply_of (Ok answer.Nothing) = model.done
 reply_of (Ok (answer.Id v)) = model.done
@@ -38,9 +44,14 @@ reply_of (Ok (answer.Flag b)) = model.flag b
 reply_of (Ok (answer.Number n)) = model.number n
 reply_of (Ok (answer.Document bytes)) = model.bytes bytes.items
 reply_of (Ok (answer.Documents bodies)) = model.bytes_list (bytes_of_each bodies.items)
+reply_of (Ok (answer.Found None)) = model.done
+reply_of (Ok (answer.Found (Some body))) = model.bytes body.items
 reply_of (Ok (answer.Names names)) = model.names (map string_bytes names.items)
+reply_of (Ok (answer.Values cs counts)) = model.number (length cs.items)
 reply_of (Ok (answer.Updated m c)) = model.number m
 reply_of (Ok (answer.NotUpdated i e)) = model.refused BadKey (Some i)
+reply_of (Ok (answer.Upserted v)) = model.done
+reply_of (Ok (answer.NotUpserted e)) = model.refused BadKey None
 reply_of (Err e) = model.refused e.kind e.document
 
 abbrev pub IsFlag : Answer → Type 0
@@ -63,6 +74,11 @@ abbrev pub AreNames : Answer → Type 0
 AreNames (answer.Names names) = Unit {0}
 AreNames _ = ⊥
 
+-- different values, and whether they are counted
+abbrev pub AreValues : Bool → Answer → Type 0
+AreValues counts (answer.Values cs own) = own ≡ counts
+AreValues counts _ = ⊥
+
 -- how many documents were updated or replaced, or of which one that isn't done
 abbrev pub IsUpdate : Answer → Type 0
 IsUpdate (answer.Updated m c) = Unit {0}
@@ -74,7 +90,16 @@ IsChange (work.Update steps) a = IsUpdate a
 IsChange (work.Replace e) a = IsUpdate a
 IsChange work.Remove a = IsNumber a
 
--- an insertion returns the `_id`, a change by query how many documents it meant, another change returns nothing, and a question what it asks for
+-- the `_id` of what is put in, or why nothing is
+abbrev pub IsEnd : Otherwise → Answer → Type 0
+IsEnd (otherwise.Insert id d) a = (own : Bson) × (a ≡ answer.Upserted own) × (view own ≡ view id)
+IsEnd (otherwise.Refuse e) a = a ≡ answer.NotUpserted e
+
+-- a change by query, or what is returned if none answers
+abbrev pub IsUpsert : Work → Otherwise → Answer → Type 0
+IsUpsert w u a = IsChange w a ⊎ IsEnd u a
+
+-- an insertion returns the `_id`, a change by query how many documents it meant, or the one that it found, another change returns nothing, and a question what it asks for
 abbrev pub IsAnswerTo : Request → Answer → Type 0
 IsAnswerTo (request.Insert id d) a = (own : Bson) × (a ≡ answer.Id own) × (view own ≡ view id)
 IsAnswerTo (request.Put d) a = a ≡ answer.Nothing
@@ -83,9 +108,12 @@ IsAnswerTo (request.Get id) a = IsDocument a
 IsAnswerTo (request.Set id key v) a = a ≡ answer.Nothing
 IsAnswerTo (request.Unset id key) a = IsFlag a
 IsAnswerTo (request.Change q w many) a = IsChange w a
+IsAnswerTo (request.Upsert q w many u) a = IsUpsert w u a
 IsAnswerTo (request.Remove id) a = a ≡ answer.Nothing
 IsAnswerTo (request.Find q wanted) a = AreDocuments a
+IsAnswerTo (request.FindAndChange q w k) a = IsFound k a
 IsAnswerTo (request.Count q) a = IsNumber a
+IsAnswerTo (request.Distinct path q counts) a = AreValues counts a
 IsAnswerTo (request.Import stream) a = IsNumber a
 IsAnswerTo (request.Index path) a = a ≡ answer.Nothing
 IsAnswerTo (request.DropIndex path) a = a ≡ answer.Nothing
@@ -104,10 +132,15 @@ abbrev pub Drops : {S : Type 0} {h : _} → Store S h → List ℕ → Request �
 Drops s n (request.DropIndex path) = HasIndex s n (path_of path.items) → ⊥
 Drops s n _ = Unit {0}
 
--- an insertion is refused before the store is asked
+-- the `_id` of the document that goes in, or that may
+abbrev pub inserted_id : Request → Option Value
+inserted_id (request.Insert id d) = Some (view id)
+inserted_id (request.Upsert q w many (otherwise.Insert id d)) = Some (view id)
+inserted_id _ = None
+
+-- a request that may insert is refused before the store is asked: for the name, or for want of memory
 abbrev pub IsStoppedEarly : List ℕ → Request → ErrorKind → Type 0
-IsStoppedEarly n (request.Insert id d) k = IsUnasked n (content d) k
-IsStoppedEarly n _ k = ⊥
+IsStoppedEarly n q k = (is_some (inserted_id q) ≡ true) × (((IsName n → ⊥) × (k ≡ BadName)) ⊎ (IsName n × (k ≡ Memory)))
 
 -- on the collection n, the request does what the store's command does that it stands for, with this outcome
 abbrev pub Performs : List ℕ → Request → Result Answer StoreError → List TableRow → List TableRow → Type 0
@@ -118,9 +151,12 @@ Performs n (request.Get id) o old new = Does (model.on n (model.get_raw (view id
 Performs n (request.Set id key v) o old new = Sets n (view id) key.now (view v) (reply_of o) old new
 Performs n (request.Unset id key) o old new = Does (model.on n (model.unset (view id) key.now)) (reply_of o) old new
 Performs n (request.Change q w many) o old new = ChangesFound n (form_of q) w many o old new
+Performs n (request.Upsert q w many u) o old new = UpsertsFound n (form_of q) w many u o (reply_of o) old new
 Performs n (request.Remove id) o old new = Does (model.on n (model.remove (view id))) (reply_of o) old new
 Performs n (request.Find q w) o old new = Finds n (form_of q) w (reply_of o) old new
+Performs n (request.FindAndChange q w k) o old new = FindsAndChanges n (form_of q) w k o old new
 Performs n (request.Count q) o old new = Counts n (form_of q) (reply_of o) old new
+Performs n (request.Distinct path q counts) o old new = Differs n (form_of q) (path_of path.items) counts o old new
 Performs n (request.Import stream) o old new = DoesMany n (ReadsStream stream.items) (reply_of o) old new
 Performs n (request.Index path) o old new = Indexes n (reply_of o) old new
 Performs n (request.DropIndex path) o old new = Indexes n (reply_of o) old new

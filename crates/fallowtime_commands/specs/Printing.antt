@@ -1,5 +1,5 @@
 -- What is printed of answers.
-use Rattle.std.specs.Prelude.{◌≡◌, ◌⊎◌, ℕ, ◌+◌, List, ◌∷◌, ◌++◌, map, Bool, true, false, Option, None, Some, Result, Ok, Err, String, codes, decimal, string_bytes}
+use Rattle.std.specs.Prelude.{◌≡◌, ◌⊎◌, ℕ, ◌+◌, List, ◌∷◌, ◌++◌, map, Bool, true, false, Option, None, Some, Result, Ok, Err, String, Vec, codes, decimal, string_bytes, MatchOption}
 use Rattle.std.specs.declared.alloc.Global.{Global}
 use Rattle.bson_base.specs.Device.{Tally}
 use Rattle.bson_base.specs.Value.{Value, Members, document}
@@ -13,12 +13,14 @@ use Rattle.bson_store.specs.Export.{bytes_of_each}
 use Rattle.cli_convert.specs.Parts.{InParts, Passed}
 use Rattle.cli_words.specs.Lines.{line}
 use Rattle.shown_text.specs.Shown.{shown}
+use Rattle.store_distinct.specs.declared.counted.Counted.{Counted}
 use Rattle.store_model.specs.Refusal.{refusal, refusal_at}
 use Rattle.store_model.specs.State.{IsKept}
 use Rattle.store_model.specs.declared.error.ErrorKind.{ErrorKind}
 use Rattle.store_model.specs.declared.error.ErrorKind.TheVariants.{BadKey, Database, Memory, ReservedKey, Writer}
 use Rattle.store_model.specs.declared.error.StoreError.{StoreError}
 use Rattle.store_update.specs.declared.error.UpdateError.{UpdateError}
+use Rattle.fallowtime_texts.specs.Printed.{holding}
 use Rattle.fallowtime_texts.specs.declared.printed.PrintFault.{PrintFault}
 use Rattle.fallowtime_texts.specs.declared.printed.PrintFault.TheVariants as faults
 use Rattle.fallowtime_commands.specs.declared.answer.Answer.{Answer}
@@ -27,7 +29,7 @@ use Rattle.fallowtime_commands.specs.declared.printing.Form.{Form}
 use Rattle.fallowtime_commands.specs.declared.printing.Form.TheVariants.{Lines, Bytes}
 use Rattle.fallowtime_commands.specs.declared.refusal.Refusal.{Refusal}
 use Rattle.fallowtime_requests.specs.declared.request.Request.{Request}
-use Rattle.fallowtime_requests.specs.declared.request.Request.TheVariants as request
+use Rattle.fallowtime_commands.specs.Performing.{inserted_id}
 
 -- ---- one document
 
@@ -113,6 +115,35 @@ PrintsNames names before after (Err r) =
     (front : List (List ℕ)) × (name : List ℕ) × (back : List (List ℕ)) × (out : List ℕ) × (mid : Tally) × (names ≡ front ++ name ∷ back)
     × Passed before mid out × InParts IsNameLine out front × PrintsName name mid after (Err r)
 
+-- ---- values
+
+-- an object with a text and digits
+abbrev pub counted_text : List ℕ → List ℕ → List ℕ
+counted_text text digits = codes "{\"value\":" ++ (text ++ (codes ",\"count\":" ++ (digits ++ codes "}")))
+
+-- its text, or an object with it and the number of documents that have it
+abbrev pub value_text : Bool → List ℕ → ℕ → List ℕ
+value_text false text n = text
+value_text true text n = counted_text text (decimal n)
+
+abbrev pub IsValueLine : Mode → Bool → List ℕ → Counted → Type 0
+IsValueLine m counts part c = (text : List ℕ) × IsTextOf m (view c.value) text × (part ≡ line (value_text counts text c.documents))
+
+-- a document in it, or the value itself, has a reserved key, and the path behind `value` to the first one is reported
+abbrev pub IsReservedValue : Value → Refusal → Type 0
+IsReservedValue v r = (r.error ≡ refusal ReservedKey) × ((path : String Global) × (reserved_path_below (holding v) ≡ Some (string_bytes path)) × (r.key ≡ Some path))
+
+abbrev pub PrintsValue : Mode → Bool → Counted → Tally → Tally → Result (Unit {0}) Refusal → Type 0
+PrintsValue m counts c before after (Ok x) = (part : List ℕ) × Passed before after part × IsValueLine m counts part c
+PrintsValue m counts c before after (Err r) = (IsReservedValue (view c.value) r × (after ≡ before)) ⊎ (IsOutOfMemory before after r.error ⊎ IsUnwritten before after r.error)
+
+-- all are printed, one a line; or the first ones are, and the next one isn't
+abbrev pub PrintsValues : Mode → Bool → List Counted → Tally → Tally → Result (Unit {0}) Refusal → Type 0
+PrintsValues m counts cs before after (Ok x) = (out : List ℕ) × Passed before after out × InParts (IsValueLine m counts) out cs
+PrintsValues m counts cs before after (Err r) =
+    (front : List Counted) × (c : Counted) × (back : List Counted) × (out : List ℕ) × (mid : Tally) × (cs ≡ front ++ c ∷ back)
+    × Passed before mid out × InParts (IsValueLine m counts) out front × PrintsValue m counts c mid after (Err r)
+
 -- ---- answers
 
 abbrev pub mode_of : Form → Mode
@@ -126,15 +157,33 @@ flag_text false = codes "false"
 -- the text is that of the id that is returned, if one is
 abbrev pub IsIdText : Form → Answer → List ℕ → Type 0
 IsIdText f (answer.Id v) text = IsTextOf (mode_of f) (view v) text
+IsIdText f (answer.Upserted v) text = IsTextOf (mode_of f) (view v) text
 IsIdText f _ text = Unit {0}
 
 -- how many documents were selected, and how many of them became other ones
 abbrev pub update_text : ℕ → ℕ → List ℕ
 update_text m c = codes "{\"matched\":" ++ (decimal m ++ (codes ",\"changed\":" ++ (decimal c ++ codes "}")))
 
+-- none was selected, and a document went in with the `_id` of this text
+abbrev pub upsert_text : List ℕ → List ℕ
+upsert_text id = codes "{\"matched\":0,\"changed\":0,\"upserted\":" ++ (id ++ codes "}")
+
+abbrev pub PrintsUpsert : Mode → Value → Tally → Tally → Result (Unit {0}) Refusal → Type 0
+PrintsUpsert m id before after (Ok x) = (text : List ℕ) × IsTextOf m id text × Passed before after (line (upsert_text text))
+PrintsUpsert m id before after (Err r) = IsUnwritten before after r.error
+
+-- an update isn't made of the query's equality fields: that is refused, by its name
+abbrev pub RefusesUpsert : UpdateError → Tally → Tally → Result (Unit {0}) Refusal → Type 0
+RefusesUpsert e before after result = ((r : Refusal) × (result ≡ Err r) × (r.error ≡ refusal BadKey) × (r.update ≡ Some e)) × (after ≡ before)
+
 -- an update isn't made of the document at a place: that is refused, by its name
 abbrev pub RefusesUpdate : ℕ → UpdateError → Tally → Tally → Result (Unit {0}) Refusal → Type 0
 RefusesUpdate i e before after result = ((r : Refusal) × (result ≡ Err r) × (r.error ≡ refusal_at BadKey i) × (r.update ≡ Some e)) × (after ≡ before)
+
+-- a document that was found and changed, if one was; else nothing
+abbrev pub PrintsFound : Form → Option (Vec ℕ Global) → Tally → Tally → Result (Unit {0}) Refusal → Type 0
+PrintsFound f None before after result = (result ≡ Ok tt) × (after ≡ before)
+PrintsFound f (Some body) before after result = PrintsBody f body.items before after result
 
 abbrev pub Prints : Form → Answer → Tally → Tally → Result (Unit {0}) Refusal → Type 0
 Prints f answer.Nothing before after result = (result ≡ Ok tt) × (after ≡ before)
@@ -143,9 +192,13 @@ Prints f (answer.Flag b) before after result = PrintsLine (flag_text b) before a
 Prints f (answer.Number n) before after result = PrintsLine (decimal n) before after result
 Prints f (answer.Document body) before after result = PrintsBody f body.items before after result
 Prints f (answer.Documents bodies) before after result = PrintsBodies f (bytes_of_each bodies.items) before after result
+Prints f (answer.Found found) before after result = PrintsFound f found before after result
 Prints f (answer.Names names) before after result = PrintsNames (map string_bytes names.items) before after result
+Prints f (answer.Values cs counts) before after result = PrintsValues (mode_of f) counts cs.items before after result
 Prints f (answer.Updated m c) before after result = PrintsLine (update_text m c) before after result
 Prints f (answer.NotUpdated i e) before after result = RefusesUpdate i e before after result
+Prints f (answer.Upserted v) before after result = PrintsUpsert (mode_of f) (view v) before after result
+Prints f (answer.NotUpserted e) before after result = RefusesUpsert e before after result
 
 -- what a request returns that only reads
 abbrev pub IsRead : Answer → Type 0
@@ -153,12 +206,12 @@ IsRead (answer.Number n) = Unit {0}
 IsRead (answer.Document body) = Unit {0}
 IsRead (answer.Documents bodies) = Unit {0}
 IsRead (answer.Names names) = Unit {0}
+IsRead (answer.Values cs counts) = Unit {0}
 IsRead _ = ⊥
 
--- the text is that of the id of the document that is to go in, if one is
+-- the text is that of the id of the document that is to go in, or that may, if there is one
 abbrev pub IsInsertText : Form → Request → List ℕ → Type 0
-IsInsertText f (request.Insert id d) text = IsTextOf (mode_of f) (view id) text
-IsInsertText f _ text = Unit {0}
+IsInsertText f q text = MatchOption (inserted_id q) (Unit {0}) (λ id. IsTextOf (mode_of f) id text)
 
 abbrev pub IsOutcomeText : Form → Result Answer StoreError → List ℕ → Type 0
 IsOutcomeText f (Ok a) text = IsIdText f a text

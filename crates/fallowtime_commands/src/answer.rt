@@ -3,11 +3,13 @@
 ghost use Rattle.std.specs.Prelude.{◌≡◌, IfOk};
 ghost use Rattle.bson_store.specs.Questions.{as_list, as_names};
 ghost use Rattle.bson_store.specs.Refusals.{as_bytes, as_done, as_flag, as_number, reply_by};
-ghost use Rattle.fallowtime_commands.specs.Performing.{IsDocument, IsFlag, IsNumber, AreDocuments, AreNames, reply_of};
-ghost use Rattle.fallowtime_commands.specs.declared.answer.Answer.TheVariants.{Id, Nothing};
+ghost use Rattle.fallowtime_commands.specs.Asking.{values_by};
+ghost use Rattle.fallowtime_commands.specs.Performing.{IsDocument, IsFlag, IsNumber, AreDocuments, AreNames, AreValues, reply_of};
+ghost use Rattle.fallowtime_commands.specs.declared.answer.Answer.TheVariants.{Id, Nothing, Upserted};
 
 use bson_store::{Bson, StoreError};
 use std::mem::replace;
+use store_distinct::Counted;
 use store_update::UpdateError;
 
 /// What a command that is done returns.
@@ -25,12 +27,20 @@ pub enum Answer {
     Document(Vec<u8>),
     /// Written documents, each by itself.
     Documents(Vec<Vec<u8>>),
+    /// The written document that was found and changed, if one was found.
+    Found(Option<Vec<u8>>),
     /// Names of collections.
     Names(Vec<String>),
+    /// Different values; if so, with how many documents have each.
+    Values(Vec<Counted>, bool),
     /// How many documents answered the query of an update or a replacement, and how many of them are other ones now.
     Updated(u64, u64),
     /// Nothing was changed: why nothing is made of this one of the documents that answered, counted from 0.
     NotUpdated(u64, UpdateError),
+    /// No document answered the query of a change, and the one with this `_id` went in.
+    Upserted(Bson),
+    /// No document answered, and nothing was changed: why none is made of the query's equality fields.
+    NotUpserted(UpdateError),
 }
 
 /// A change returns nothing.
@@ -49,6 +59,15 @@ pub(crate) fn inserted(id: &mut Bson, outcome: Result<(), StoreError>) -> Result
 {
     outcome?;
     Ok(Answer::Id(replace(id, Bson::Null)))
+}
+
+/// A change that put a document in returns the `_id`, which is taken; after a refusal it stays.
+pub(crate) fn upserted(id: &mut Bson, outcome: Result<(), StoreError>) -> Result<Answer, StoreError>
+    ensures reply { reply_of result ≡ reply_by as_done outcome }
+    ensures shape { IfOk result (λ a. a ≡ Upserted id.old) }
+{
+    outcome?;
+    Ok(Answer::Upserted(replace(id, Bson::Null)))
 }
 
 /// Whether something was there.
@@ -89,4 +108,15 @@ pub(crate) fn names(outcome: Result<Vec<String>, StoreError>) -> Result<Answer, 
     ensures shape { IfOk result AreNames }
 {
     Ok(Answer::Names(outcome?))
+}
+
+/// Different values, and whether they are counted.
+pub(crate) fn values(
+    outcome: Result<Vec<Counted>, StoreError>,
+    counts: bool,
+) -> Result<Answer, StoreError>
+    ensures reply { result ≡ values_by counts outcome }
+    ensures shape { IfOk result (AreValues counts) }
+{
+    Ok(Answer::Values(outcome?, counts))
 }

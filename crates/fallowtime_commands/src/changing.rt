@@ -22,10 +22,10 @@ ghost use Rattle.fallowtime_commands.specs.declared.changing.Unmade.TheVariants.
 
 use crate::answer::Answer;
 use crate::meant::find_meant;
-use crate::replacing::{copy_with_id, has_other_id};
+use crate::replacing::copy_with_id;
 use crate::storing::kept_bytes;
 use bson_store::{Bson, Document, Edit, ErrorKind, Store, StoreError, apply_all};
-use fallowtime_requests::Work;
+use fallowtime_requests::{Work, has_other_id};
 use sqlite::Alter;
 use std::alloc::{AllocError, Global};
 use store_documents::{ID_KEY, document_of_body};
@@ -34,7 +34,7 @@ use store_update::{Step, UpdateError, updated};
 
 /// Why nothing becomes of a document.
 #[derive(Drop)]
-enum Unmade {
+pub(crate) enum Unmade {
     /// It is refused for the document at this place among those that are meant, counted from 0.
     Update(u64, UpdateError),
     /// What becomes of a document can't be kept, or memory ran out.
@@ -219,7 +219,7 @@ fn replacement_of_body(
 }
 
 /// The change that is to be made of the document of a body, which is at the place `at`; none if it stays as it is.
-fn edit_of(
+pub(crate) fn edit_of(
     alloc: Global,
     name: &str,
     at: u64,
@@ -241,7 +241,7 @@ fn edit_of(
 }
 
 /// Puts a change behind the others, if there is one.
-fn push(edit: Option<Edit>, edits: &mut Vec<Edit>) -> Result<(), Unmade>
+pub(crate) fn push(edit: Option<Edit>, edits: &mut Vec<Edit>) -> Result<(), Unmade>
     ensures { MatchResult result (λ _. edits.new.items ≡ edits.old.items ++ listed edit)
         (λ w. w ≡ OfStore (refusal Memory)) }
 {
@@ -255,7 +255,12 @@ fn push(edit: Option<Edit>, edits: &mut Vec<Edit>) -> Result<(), Unmade>
 }
 
 /// The changes that are to be made of the documents of these bodies, in their order.
-fn edits_of(alloc: Global, name: &str, bodies: &[Vec<u8>], work: &Work) -> Result<Vec<Edit>, Unmade>
+pub(crate) fn edits_of(
+    alloc: Global,
+    name: &str,
+    bodies: &[Vec<u8>],
+    work: &Work,
+) -> Result<Vec<Edit>, Unmade>
     ensures edits { (ds : Documents) → AreKept ds → bytes_of_each bodies.now ≡ map encode ds
         → MatchResult result (λ edits. AreEdits name.now work.now ds edits.items)
         (StopsAt name.now work.now ds) }
@@ -270,7 +275,7 @@ fn edits_of(alloc: Global, name: &str, bodies: &[Vec<u8>], work: &Work) -> Resul
 }
 
 /// What is returned if nothing becomes of a document.
-fn outcome_of(unmade: Unmade) -> Result<Answer, StoreError>
+pub(crate) fn outcome_of(unmade: Unmade) -> Result<Answer, StoreError>
     ensures { result ≡ outcome_by unmade }
 {
     match unmade {
@@ -290,7 +295,7 @@ fn answer_to(work: &Work, matched: u64, changed: u64) -> Answer
 }
 
 /// Makes the changes of `matched` documents in one step.
-fn apply<S: Alter + Drop>(
+pub(crate) fn apply<S: Alter + Drop>(
     store: &mut Store<S>,
     edits: &[Edit],
     work: &Work,
@@ -309,7 +314,7 @@ fn apply<S: Alter + Drop>(
 }
 
 /// Lets changes go. What a function that is generic over the database lets go is far dearer to prove.
-fn discard(edits: Vec<Edit>) {
+pub(crate) fn discard(edits: Vec<Edit>) {
     drop(edits);
 }
 

@@ -1,10 +1,11 @@
 //! A request over a store, and what is printed of it.
 
-ghost use Rattle.std.specs.Prelude.{◌≡◌, string_bytes, MatchResult};
+ghost use Rattle.std.specs.Prelude.{◌≡◌, string_bytes, MatchResult, option_map};
 ghost use Rattle.bson_base.specs.Device.{CanRefuse};
+ghost use Rattle.bson_model.specs.View.{view};
 ghost use Rattle.bson_store.specs.Calls.{store_state};
 ghost use Rattle.fallowtime_commands.specs.Executing.{Executes};
-ghost use Rattle.fallowtime_commands.specs.Performing.{IsStoppedEarly};
+ghost use Rattle.fallowtime_commands.specs.Performing.{IsStoppedEarly, inserted_id};
 ghost use Rattle.fallowtime_commands.specs.Printing.{IsInsertText, IsOutcomeText, Tells};
 
 use crate::answer::Answer;
@@ -14,8 +15,8 @@ use crate::printing::{Form, mode_of, print};
 use crate::refusal::Refusal;
 use bson_base::Sink;
 use bson_json::write_value;
-use bson_store::{ErrorKind, Store, StoreError};
-use fallowtime_requests::Request;
+use bson_store::{Bson, ErrorKind, Store, StoreError};
+use fallowtime_requests::{Otherwise, Request};
 use sqlite::Alter;
 use std::alloc::Global;
 use store_documents::Name;
@@ -30,8 +31,19 @@ fn refusal_with(alloc: Global, request: &Request<'_>, error: StoreError) -> Refu
     }
 }
 
-/// The text of the `_id` of a document that is to go into the collection `name`, made before it goes in, so that it is
-/// there to be printed whatever memory there is then. Empty for another request.
+/// The `_id` of the document that is to go in, or that may.
+fn inserted_id<'a>(request: &'a Request<'_>) -> Option<&'a Bson>
+    ensures { option_map (λ id. view id.now) result ≡ inserted_id request.now }
+{
+    match request {
+        Request::Insert(id, _) => Some(id),
+        Request::Upsert(_, _, _, Otherwise::Insert(id, _)) => Some(id),
+        _ => None,
+    }
+}
+
+/// The text of the `_id` of a document that is to go into the collection `name`, or that may, made before it goes in,
+/// so that it is there to be printed whatever memory there is then. Empty for another request.
 fn insert_text(
     alloc: Global,
     name: &str,
@@ -42,7 +54,7 @@ fn insert_text(
         (IsStoppedEarly name.now request.now) }
 {
     let mut text = String::new(alloc);
-    if let Request::Insert(id, _) = request {
+    if let Some(id) = inserted_id(request) {
         if Name::new(name).is_none() {
             return Err(ErrorKind::BadName);
         }

@@ -4,7 +4,7 @@ use bson_json::write_value;
 use bson_raw::RawDocument;
 use bson_store::extjson::Mode;
 use bson_store::{Bson, ErrorKind, StoreError};
-use fallowtime_requests::Request;
+use fallowtime_requests::{Otherwise, Request};
 use std::alloc::Global;
 
 /// An `_id` as relaxed Extended JSON. None if there is no memory for it.
@@ -54,6 +54,7 @@ fn id_in<'a>(request: &'a Request<'_>) -> Option<&'a Bson> {
         Request::Remove(id) => Some(id),
         Request::Put(document) => document.get("_id"),
         Request::Replace(document) => document.get("_id"),
+        Request::Upsert(_, _, _, Otherwise::Insert(id, _)) => Some(id),
         _ => None,
     }
 }

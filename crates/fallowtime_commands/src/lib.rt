@@ -5,7 +5,9 @@
 mod answer;
 mod asking;
 mod changing;
+mod differing;
 mod executing;
+mod finding;
 mod ids;
 pub mod laws;
 mod looking;
@@ -17,6 +19,7 @@ mod replacing;
 mod setting;
 mod storing;
 mod total;
+mod upserting;
 mod wanting;
 
 pub use answer::Answer;

@@ -11,8 +11,9 @@ ghost use Rattle.fallowtime_commands.specs.Performing.{IsAnswerTo, Performs};
 ghost use Rattle.fallowtime_commands.specs.Printing.{IsRead, Tells};
 ghost use Rattle.fallowtime_requests.specs.declared.request.Request.TheVariants.{Check};
 
-use crate::answer::{Answer, document, documents, names, number};
+use crate::answer::{Answer, document, documents, names, number, values};
 use crate::asking::count_in_pages;
+use crate::differing::distinct_in_pages;
 use crate::executing::print_outcome;
 use crate::printing::Form;
 use crate::refusal::Refusal;
@@ -63,6 +64,10 @@ fn ask<P: Pages + Drop>(
         }
         Request::Count(question) => told(number(count_in_pages(alloc, store, name, question))),
         Request::Collections => told(names(store.collections())),
+        Request::Distinct(path, question, counts) => {
+            let outcome = distinct_in_pages(alloc, store, name, question, path.as_slice());
+            told(values(outcome, *counts))
+        }
         _ => None,
     }
 }

@@ -6,12 +6,15 @@ ghost use Rattle.bson_store.specs.Calls.{store_state, Relates};
 ghost use Rattle.fallowtime_commands.specs.Left.{LeavesRequest};
 ghost use Rattle.fallowtime_commands.specs.Performing.{Drops, IsAnswerTo, Performs, reply_of};
 
-use crate::answer::{Answer, document, documents, flag, inserted, names, nothing, number};
+use crate::answer::{Answer, document, documents, flag, inserted, names, nothing, number, values};
 use crate::asking::count;
 use crate::changing::change;
+use crate::differing::distinct;
+use crate::finding::find_and_change;
 use crate::setting::set;
 use crate::storing::{insert, put, replace};
 use crate::total::total;
+use crate::upserting::upsert;
 use crate::wanting::find_wanted;
 use bson_store::{Bson, Store, StoreError};
 use fallowtime_requests::Request;
@@ -24,7 +27,8 @@ use std::mem::replace as take;
 ///
 /// Refused as that call is: for `Insert` and `Replace`, in this order, by BadName; TooDeep, Nul, NoId and TooLong; and
 /// then by DuplicateId and Places, or by NotFound; `Put` by neither DuplicateId nor NotFound; `Set` as `set`, whose
-/// value keeps the order of its keys; `Change` as `change`; `Import` as `import_bytes`; `Index` and `DropIndex` as
+/// value keeps the order of its keys; `Change` as `change`, `Upsert` as `upsert`, and `FindAndChange` as
+/// `find_and_change`; `Import` as `import_bytes`; `Index` and `DropIndex` as
 /// `index` and `drop_index`.
 pub fn perform<S: Alter + Drop>(
     alloc: Global,
@@ -53,9 +57,15 @@ pub fn perform<S: Alter + Drop>(
         Request::Change(question, work, many) => {
             change(alloc, store, name, question, work, *many)
         }
+        Request::Upsert(question, work, many, otherwise) => {
+            upsert(alloc, store, name, question, work, *many, otherwise)
+        }
         Request::Remove(id) => nothing(store.remove(name, id)),
         Request::Find(question, wanted) => {
             documents(find_wanted(alloc, store, name, question, wanted))
+        }
+        Request::FindAndChange(question, wanted, work) => {
+            find_and_change(alloc, store, name, question, wanted, work)
         }
         Request::Count(question) => number(count(alloc, store, name, question)),
         Request::Import(stream) => number(store.import_bytes(name, stream.as_slice())),
@@ -66,5 +76,11 @@ pub fn perform<S: Alter + Drop>(
         Request::DropIndex(path) => nothing(store.drop_index(name, path.as_slice())),
         Request::Collections => names(store.collections()),
         Request::Check => number(total(alloc, store)),
+        Request::Distinct(path, question, counts) => {
+            values(
+                distinct(alloc, store, name, question, path.as_slice()),
+                *counts,
+            )
+        }
     }
 }

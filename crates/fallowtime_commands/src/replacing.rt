@@ -1,27 +1,16 @@
 //! A document that takes the place of another one, whose `_id` it keeps.
 
-ghost use Rattle.std.specs.Prelude.{◌≡◌, ◌↔◌, IfOk, IsTrue};
+ghost use Rattle.std.specs.Prelude.{◌≡◌, IfOk};
 ghost use Rattle.bson_base.specs.Value.{put};
 ghost use Rattle.bson_model.specs.View.{content, view};
 ghost use Rattle.store_model.specs.State.{id_key};
-ghost use Rattle.fallowtime_commands.specs.Changing.{HasOtherId, identified_by};
+ghost use Rattle.fallowtime_commands.specs.Changing.{identified_by};
 
 use crate::setting::put_value;
-use bson_meaning::same_meaning;
 use bson_store::{Bson, Document};
 use fallowtime_texts::with_front_id;
 use std::alloc::{AllocError, Global};
 use store_documents::ID_KEY;
-
-/// Whether a document has an `_id` that doesn't mean the same as this one.
-pub(crate) fn has_other_id(document: &Document, id: &Bson) -> bool
-    ensures { IsTrue result ↔ HasOtherId (view id.now) (content document.now) }
-{
-    match document.get(ID_KEY) {
-        Some(own) => !same_meaning(own, id),
-        None => false,
-    }
-}
 
 /// A document with this value under `_id`: in the place of the one that is there, or last.
 fn with_value_of_id(alloc: Global, document: Document, id: Bson) -> Result<Document, AllocError>

@@ -25,7 +25,11 @@ use store_lookup::ReadOnlyStore;
 use store_question::Question;
 
 /// The body of what is left of the document that has this body.
-fn left_of_body(alloc: Global, body: &[u8], fields: &Fields) -> Result<Vec<u8>, AllocError>
+pub(crate) fn left_of_body(
+    alloc: Global,
+    body: &[u8],
+    fields: &Fields,
+) -> Result<Vec<u8>, AllocError>
     ensures { OfBody body.now (λ d. IfOk result (λ left. IsBody left.items (left_of fields.now d))) }
 {
     let Ok(document) = RawDocument::from_bytes(body) else {

@@ -9,7 +9,7 @@ use crate::ending::Ended;
 use bson_base::{ReadAllError, Source, read_all};
 use bson_model::extjson::Mode;
 use fallowtime_commands::{Form, Refusal};
-use fallowtime_requests::{Request, question_of_words, want, wanted_of_words};
+use fallowtime_requests::{Request, question_of_words, upsert_by_words, want, wanted_of_words};
 use fallowtime_texts::{IdMaker, read_lines};
 use fallowtime_words::{Command, Options, Words};
 use json::Scratch;
@@ -134,23 +134,23 @@ fn ask_by_words<'w>(
 {
     let wanted = wanted_of_words(alloc, words)?;
     let mut scratch = Scratch::new(alloc);
-    let mut question = question_of_words(
-        alloc,
-        words.command,
-        words.arguments,
-        maker,
-        &mut scratch,
-    )?;
+    let read = question_of_words(alloc, words.command, words.arguments, maker, &mut scratch)?;
+    let mut question = upsert_by_words(alloc, words, read, maker, &mut scratch)?;
     want(&mut question, wanted);
-    let request = question.request.with_many(words.options.many);
+    let options = words.options;
+    let request = question
+        .request
+        .with_many(options.many)
+        .with_counts(options.counts);
     Ok(without_lines(alloc, question.collection, Some(request)))
 }
 
 /// What the words and the input ask for: only `import` reads the input, to its end.
 ///
 /// `Words` if the paths of `--fields` and `--without` can't name fields, or else if an argument can't be read, of the
-/// first one. For `import`, `Refused` by BadName, by Reader if a read failed, and
-/// by Memory; `Lines` if a line of `import --json` can't be read. `Refused` by Memory if a growth was refused.
+/// first one, or if, with `--upsert`, a query's equality fields can't be set beside each other. For `import`, `Refused`
+/// by BadName, by Reader if a read failed, and by Memory; `Lines` if a line of `import --json` can't be read. `Refused`
+/// by Memory if a growth was refused.
 pub fn asked_of<'w, I: Source>(
     alloc: Global,
     words: &Words<'w>,

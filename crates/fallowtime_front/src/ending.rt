@@ -56,7 +56,7 @@ impl Ended {
         match self {
             Ended::Words(Unread::Document(_) | Unread::Value(_)) => "JSON",
             Ended::Words(Unread::Id(_)) => "id",
-            Ended::Words(Unread::Query(_)) => "query",
+            Ended::Words(Unread::Query(_) | Unread::Equalities(_)) => "query",
             Ended::Words(Unread::Update(_)) => "update",
             Ended::Words(_) => "usage",
             Ended::Lines(LineStop::Line(_, _)) => "line",

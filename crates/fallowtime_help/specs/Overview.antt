@@ -22,9 +22,9 @@ has_file Session = false
 has_file Alone = false
 has_file Script = true
 
--- what a command is called with, and what it does
+-- what a command is called with, and what it does, two spaces behind that at the least
 abbrev pub row_text : Signature → List ℕ
-row_text row = padded 30 (call_behind (codes "  ") row.command) ++ row.about.now ++ codes "\n"
+row_text row = padded 30 (call_behind (codes "  ") row.command ++ codes "  ") ++ row.about.now ++ codes "\n"
 
 abbrev pub rows_text : List Signature → List ℕ
 rows_text [] = []

@@ -1,5 +1,5 @@
 -- The line of a command, as the table of commands has it.
-use Rattle.std.specs.Prelude.{ℕ, List, [], ◌∷◌, ◌++◌, codes, if◌then◌else◌, ◌&&◌}
+use Rattle.std.specs.Prelude.{ℕ, List, [], ◌∷◌, ◌++◌, codes, if◌then◌else◌, ◌&&◌, ◌||◌}
 use Rattle.fallowtime_words.specs.Commands.{allowed, arguments, command_name, place}
 use Rattle.fallowtime_words.specs.declared.command.Command.{Command}
 use Rattle.fallowtime_words.specs.declared.table.Allowed.{Allowed}
@@ -30,8 +30,10 @@ arguments_text (a ∷ more) = argument_text a ++ arguments_text more
 abbrev pub options_text : Allowed → List ℕ
 options_text o =
     if o.lines then codes " [--json]"
+    else if o.many && o.upsert then codes " [--many] [--upsert]"
     else if o.many then codes " [--many]"
-    else if o.arranged then codes " [--OPTION ..]"
+    else if o.upsert then codes " [--upsert]"
+    else if o.arranged || o.counts then codes " [--OPTION ..]"
     else if o.canonical && o.bytes then codes " [--canonical | --bson]"
     else if o.canonical then codes " [--canonical]"
     else codes ""

@@ -30,6 +30,7 @@ fn row_of(alloc: Global, row: &Signature) -> Result<String, AllocError>
     ensures { IfOk result (λ t. string_bytes t ≡ row_text row.now) }
 {
     let mut text = call_of(alloc, "  ", row.command)?;
+    text.push_str("  ")?;
     pad(&mut text, COLUMN)?;
     text.push_str(row.about)?;
     text.push_str("\n")?;

@@ -73,7 +73,7 @@ pub(crate) const DASHED: &str =
 
 /// What is wrong with other options of a session.
 pub(crate) const OPTIONS: &str =
-    "the words are fallowtime FILE [--wait SECONDS]; fallowtime help COMMAND says what a command takes";
+    "the words are fallowtime FILE [--messages] [--wait SECONDS]; fallowtime help COMMAND says what a command takes";
 
 /// What is wrong with other words.
 pub(crate) const GENERAL: &str =

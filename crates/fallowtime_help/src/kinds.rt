@@ -417,8 +417,9 @@ const READER: &str = "  `Reader`: standard input can't be read.
 ";
 
 const WRITER: &str =
-    "  `Writer`: standard output can't be written: the disk is full, or the next command of a pipe, such as `head`, has
-  ended.
+    "  `Writer`: standard output can't be written: the disk is full, or, of bson_store, the next command of a pipe, such as
+  `head`, has ended. fallowtime and bson_json end in silence then, with status 141, as `cat` does; a change whose answer
+  nobody reads is made.
 ";
 
 const BSON_STREAM: &str =
@@ -491,7 +492,8 @@ const DISK: &str =
 
 const QUERY: &str =
     "  `words: query`: QUERY is no query of the language, for the reason that follows: it is no JSON from a byte on, or no
-  object, a key comes twice, there is no operator of that name, or an operator or a path takes no such value.
+  object, a key comes twice, there is no operator of that name, or an operator or a path takes no such value. Or it is
+  one, and with `--upsert` it asks for two values at one path, or at one inside the other.
 ";
 
 const UPDATE: &str =
@@ -502,7 +504,8 @@ const UPDATE: &str =
 
 const THROUGH: &str =
     "  `Through`: of `update`: a path leads through a value that is no document, such as `a.b` where `a` is a number or an
-  array. N counts the documents that `find COLL QUERY` prints. Nothing was changed, as after each of the next five.
+  array. N counts the documents that `find COLL QUERY` prints; without it the document is that of `--upsert`. Nothing
+  was changed, as after each of the next five.
 ";
 
 const NOT_A_NUMBER: &str = "  `NotANumber`: `$inc` or `$mul` of a value that is no number.
@@ -522,8 +525,8 @@ const OVERFLOW: &str =
 ";
 
 const OTHER_ID: &str =
-    "  `Id`: of `replace-one`: DOC has another `_id` than the document that it would replace. Without one it keeps what was
-  there.
+    "  `Id`: of `replace-one`: DOC has another `_id` than the document that it would replace, or, with `--upsert`, than QUERY
+  asks for. Without one it keeps what was there.
 ";
 
 const WORDS: &str =

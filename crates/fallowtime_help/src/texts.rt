@@ -9,13 +9,16 @@ database. Documents go in and out as MongoDB Extended JSON v2 or as BSON, every
 double bit for bit and the keys in their order.
 
     fallowtime FILE COMMAND .. [OPTIONS]   does one command
-    fallowtime FILE [--wait SECONDS]       keeps FILE open, and answers each line
-                                           of standard input by a line; at a
-                                           terminal it has a prompt
+    fallowtime FILE [--wait SECONDS]       keeps FILE open, and answers each
+                                           line of standard input by a line; at
+                                           a terminal it has a prompt
+    fallowtime FILE --messages             answers MongoDB's messages, which a
+                                           driver sends, by messages
     fallowtime help [COMMAND]              this, or what a command takes
     fallowtime --explain KIND              what a refusal means, and what to do
     fallowtime version                     which version this is
-    fallowtime --version                   which program runs, and how it was built
+    fallowtime --version                   which program runs, and how it was
+                                           built
 
 Commands:
 ";
@@ -24,23 +27,30 @@ Commands:
 pub(crate) const BACK: &str = "
 Options come last, in any order:
   --canonical      prints canonical Extended JSON, with the kind of each number;
-                   else it is relaxed (insert, get, find)
-  --bson           writes documents as BSON (get, find)
-  --pretty         prints a member or an item a line, as at a terminal (get, find)
+                   else it is relaxed (insert, get, find, find-and-..,
+                   distinct)
+  --bson           writes documents as BSON (get, find, find-and-..)
+  --pretty         prints a member or an item a line, as at a terminal (get,
+                   find)
   --json           reads lines of Extended JSON, a document each (import)
-  --many           all selected documents, and not only the first (update, delete)
+  --many           all selected documents, and not only the first (update,
+                   delete)
+  --upsert         puts a document in if none is selected (update, replace-one)
+  --count          how many documents have each value (distinct)
   --sort KEYS, --skip N, --limit N
-                   an order of documents, and a part of them (find)
+                   an order of documents, and a part of them (find, find-and-..)
   --fields PATHS, --without PATHS
-                   which fields of documents there are (find)
+                   which fields of documents there are (find, find-and-..)
+  --after          the document as it is after the change (find-and-update,
+                   find-and-replace)
   --wait SECONDS   waits so long for a FILE that another process has; else 5
 
 DOC and VALUE are Extended JSON, and so is ID; an ID that is no JSON is the text
 itself. QUERY is in MongoDB's language: '{\"price\":{\"$gte\":1,\"$lt\":5}}'. A name,
 an ID or a text may begin with -, a FILE that does is written ./-x.db.
 
-A line of a session is a JSON array with the words of a command, where documents,
-ids, queries and values are JSON themselves, and so is its answer:
+A line of a session is a JSON array with the words of a command, where
+documents, ids, queries and values are JSON themselves, and so is its answer:
 
     [\"insert\",\"orders\",{\"_id\":\"A\",\"price\":1.5}]  {\"_id\":\"A\"}
     [\"get\",\"orders\",9]                           {\"error\":\"NotFound\"}
@@ -57,8 +67,8 @@ Status 0: done. 1: `refused: KIND`. 2: words that can't be read, `words: ..`.
 pub(crate) const EVERY: &str = "
 Each command may be refused for what is at fault with FILE, too: Busy, Denied,
 NoDatabase, Journal, NotPlain, NoFolder, NoName, Disk, Database, NotAStore,
-BadRow, IdsCollide; and by Memory and Writer. fallowtime --explain KIND says what
-each means, and what to do.
+BadRow, IdsCollide; and by Memory and Writer. fallowtime --explain KIND says
+what each means, and what to do.
 ";
 
 const INSERT: &str = "
@@ -72,13 +82,14 @@ isn't there is made.
     fallowtime shop.db insert orders '{\"_id\":1,\"price\":1.5,\"city\":\"Ulm\"}'
     fallowtime shop.db insert orders '{\"price\":{\"$numberDecimal\":\"9.90\"}}'
 
-May be refused: DuplicateId, BadName, TooDeep, TooLong, Nul, Places; words: JSON.
+May be refused: DuplicateId, BadName, TooDeep, TooLong, Nul, Places;
+words: JSON.
 ";
 
 const PUT: &str = "
 Puts the document DOC into the collection COLL: in the place of the one with its
-_id, or last if there is none. DOC has to have an _id. A FILE that isn't there is
-made.
+_id, or last if there is none. DOC has to have an _id. A FILE that isn't there
+is made.
 
   --wait SECONDS   waits so long if another process has FILE; else 5
 
@@ -89,8 +100,8 @@ May be refused: NoId, BadName, TooDeep, TooLong, Nul, Places; words: JSON.
 ";
 
 const REPLACE: &str = "
-Puts the document DOC in the place of the one of the collection COLL that has its
-_id.
+Puts the document DOC in the place of the one of the collection COLL that has
+its _id.
 
   --wait SECONDS   waits so long if another process has FILE; else 5
 
@@ -103,8 +114,8 @@ words: JSON.
 
 const GET: &str = "
 Prints the document of the collection COLL with this _id, on a line, as relaxed
-Extended JSON. ID is Extended JSON; a word that is no JSON is the text itself, so
-42 is a number, and '\"42\"' is a text.
+Extended JSON. ID is Extended JSON; a word that is no JSON is the text itself,
+so 42 is a number, and '\"42\"' is a text.
 
   --canonical      prints canonical Extended JSON, with the kind of each number
   --bson           writes the document as BSON
@@ -112,7 +123,7 @@ Extended JSON. ID is Extended JSON; a word that is no JSON is the text itself, s
   --wait SECONDS   waits so long if another process has FILE; else 5
 
     fallowtime shop.db get orders A-4
-    fallowtime shop.db get orders '{\"$oid\":\"650000000000000000000002\"}' --canonical
+    fallowtime shop.db get orders '{\"$oid\":\"650000000000000000000002\"}'
 
 May be refused: NotFound, NoFile, BadName, ReservedKey; words: id.
 ";
@@ -147,18 +158,25 @@ const UPDATE: &str = "
 Updates the first document of the collection COLL that QUERY selects, or with
 --many all of them, in one step: all or, if one of them can't be updated, none.
 Prints how many were selected, and how many of these are other ones now:
-{\"matched\":3,\"changed\":2}. QUERY is that of find, {} for every document; UPDATE is
-in MongoDB's language: $set, $unset, $inc, $mul, $min, $max, $push, $addToSet,
-$pull, $pullAll, $pop and $rename at paths.
+{\"matched\":3,\"changed\":2}. QUERY is that of find, {} for every document; UPDATE
+is in MongoDB's language: $set, $unset, $inc, $mul, $min, $max, $push,
+$addToSet, $pull, $pullAll, $pop and $rename at paths.
+
+With --upsert, if none is selected, a document is put in: the equality fields of
+QUERY, {\"a.b\":1} and {\"a\":{\"$eq\":1}}, also within $and, with UPDATE made on
+them, and what $setOnInsert sets. It gets an _id if QUERY has none. Prints that
+_id: {\"matched\":0,\"changed\":0,\"upserted\":7}.
 
   --many           updates all documents that are selected; else the first
+  --upsert         puts a document in if none is selected
   --wait SECONDS   waits so long if another process has FILE; else 5
 
-    fallowtime shop.db update orders '{\"_id\":1}' '{\"$set\":{\"customer.city\":\"Ulm\"}}'
+    fallowtime shop.db update orders '{\"_id\":1}' '{\"$set\":{\"to.city\":\"Ulm\"}}'
     fallowtime shop.db update orders '{}' '{\"$inc\":{\"price\":-5}}' --many
+    fallowtime shop.db update visits '{\"_id\":\"/\"}' '{\"$inc\":{\"n\":1}}' --upsert
 
 May be refused: NoFile, BadName, Through, NotANumber, NotAnArray, Decimal,
-Overflow, TooDeep, TooLong, Nul; words: query, words: update.
+Overflow, TooDeep, TooLong, Nul, DuplicateId; words: query, words: update.
 ";
 
 const REPLACE_ONE: &str = "
@@ -168,13 +186,18 @@ now: {\"matched\":1,\"changed\":1}, or 0 and 0 if there is none. The document ke
 its _id: a DOC without one gets it, put first, and a DOC with another one is
 refused (Id). QUERY is that of find, {} for every document.
 
+With --upsert, if none is selected, DOC is put in, with the _id that QUERY asks
+for, or with one that is made, if it has none. Prints that _id:
+{\"matched\":0,\"changed\":0,\"upserted\":7}.
+
+  --upsert         puts DOC in if no document is selected
   --wait SECONDS   waits so long if another process has FILE; else 5
 
-    fallowtime shop.db replace-one orders '{\"price\":12}' '{\"price\":15,\"new\":true}'
-    fallowtime shop.db replace-one orders '{\"_id\":{\"$gt\":1}}' '{\"status\":\"void\"}'
+    fallowtime shop.db replace-one orders '{\"price\":12}' '{\"price\":15}'
+    fallowtime shop.db replace-one orders '{\"_id\":{\"$gt\":1}}' '{\"void\":true}'
 
-May be refused: NoFile, BadName, Id, TooDeep, TooLong, Nul; words: query,
-words: JSON.
+May be refused: NoFile, BadName, Id, TooDeep, TooLong, Nul, DuplicateId; words:
+query, words: JSON.
 ";
 
 const DELETE: &str = "
@@ -191,6 +214,89 @@ is that of find, {} for every document.
 May be refused: NoFile, BadName; words: query.
 ";
 
+const FIND_AND_UPDATE: &str = "
+Makes UPDATE of the first document of the collection COLL that find would print
+with the same QUERY and options, and prints it as it was before, or with --after
+as it is afterwards: nothing if there is none. It is found and changed in one
+step, so no two processes take the same one. UPDATE is that of update.
+
+  --sort KEYS      takes the first in the order of the values at paths: price:-1
+                   has the greatest price first
+  --skip N         passes over the first N
+  --limit N        with 0 there is none; else of no account
+  --fields PATHS   prints the fields at paths alone, and the _id
+  --without PATHS  prints all other fields
+  --after          prints the document as it is afterwards
+  --canonical      prints canonical Extended JSON, with the kind of each number
+  --bson           writes the document as BSON
+  --wait SECONDS   waits so long if another process has FILE; else 5
+
+    fallowtime shop.db find-and-update jobs '{}' '{\"$inc\":{\"n\":1}}' --sort _id
+    fallowtime shop.db find-and-update ids '{}' '{\"$inc\":{\"next\":1}}' --after
+
+A line of a session has the options as an object behind UPDATE:
+
+    [\"find-and-update\",\"ids\",{},{\"$inc\":{\"next\":1}},{\"after\":true}]
+
+May be refused: NoFile, BadName, Through, NotANumber, NotAnArray, Decimal,
+Overflow, TooDeep, TooLong, Nul, and after the change ReservedKey; words: query,
+update, fields.
+";
+
+const FIND_AND_REPLACE: &str = "
+Puts DOC in the place of the first document of the collection COLL that find
+would print with the same QUERY and options, and prints that one as it was
+before, or with --after as it is afterwards: nothing if there is none. The
+document keeps its _id, as of replace-one.
+
+  --sort KEYS      takes the first in the order of the values at paths: price:-1
+                   has the greatest price first
+  --skip N         passes over the first N
+  --limit N        with 0 there is none; else of no account
+  --fields PATHS   prints the fields at paths alone, and the _id
+  --without PATHS  prints all other fields
+  --after          prints the document as it is afterwards
+  --canonical      prints canonical Extended JSON, with the kind of each number
+  --bson           writes the document as BSON
+  --wait SECONDS   waits so long if another process has FILE; else 5
+
+    fallowtime shop.db find-and-replace orders '{\"price\":12}' '{\"price\":15}'
+    fallowtime shop.db find-and-replace orders '{}' '{\"n\":2}' --sort day --after
+
+A line of a session has the options as an object behind DOC:
+
+    [\"find-and-replace\",\"orders\",{},{\"void\":true},{\"sort\":{\"day\":1}}]
+
+May be refused: NoFile, BadName, Id, TooDeep, TooLong, Nul, and after the change
+ReservedKey; words: query, JSON, fields.
+";
+
+const FIND_AND_DELETE: &str = "
+Removes the first document of the collection COLL that find would print with the
+same QUERY and options, and prints it: nothing if there is none. It is found and
+removed in one step, so no two processes take the same one.
+
+  --sort KEYS      takes the first in the order of the values at paths: price:-1
+                   has the greatest price first
+  --skip N         passes over the first N
+  --limit N        with 0 there is none; else of no account
+  --fields PATHS   prints the fields at paths alone, and the _id
+  --without PATHS  prints all other fields
+  --canonical      prints canonical Extended JSON, with the kind of each number
+  --bson           writes the document as BSON
+  --wait SECONDS   waits so long if another process has FILE; else 5
+
+    fallowtime shop.db find-and-delete jobs '{}' --sort priority:-1,_id
+    fallowtime shop.db find-and-delete orders '{\"status\":\"void\"}' --bson
+
+A line of a session has the options as an object behind the query:
+
+    [\"find-and-delete\",\"jobs\",{},{\"sort\":{\"priority\":-1,\"_id\":1}}]
+
+May be refused: NoFile, BadName, and after the change ReservedKey; words: query,
+fields.
+";
+
 const REMOVE: &str = "
 Removes the document of the collection COLL with this _id.
 
@@ -203,17 +309,18 @@ May be refused: NotFound, NoFile, BadName; words: id.
 ";
 
 const FIND: &str = "
-Prints the documents of the collection COLL that QUERY selects, or all of them, a
-line of relaxed Extended JSON each. QUERY is in MongoDB's language: paths with
+Prints the documents of the collection COLL that QUERY selects, or all of them,
+a line of relaxed Extended JSON each. QUERY is in MongoDB's language: paths with
 values, $eq, $ne, $gt, $gte, $lt, $lte, $in, $nin, $all, $elemMatch, $size,
-$exists, $type, $mod and $not, joined by $and, $or and $nor; an array is also its
-items.
+$exists, $type, $mod and $not, joined by $and, $or and $nor; an array is also
+its items.
 
-  --sort KEYS      prints them in the order of the values at paths: price:-1,name
-                   has the greatest price first, and names of one price ascend
+  --sort KEYS      prints them in the order of the values at paths: by
+                   price:-1,name the greatest price is first, and names of one
+                   price ascend
   --skip N         leaves out the first N
   --limit N        prints N at the most
-  --fields PATHS   prints the fields at paths alone, and the _id: name,customer.city
+  --fields PATHS   prints the fields at paths alone, and the _id: name,to.city
   --without PATHS  prints all other fields; beside --fields it may be _id alone
   --canonical      prints canonical Extended JSON, with the kind of each number
   --bson           writes the documents as BSON, one after the other
@@ -245,15 +352,37 @@ there are. QUERY is that of find.
 May be refused: NoFile, BadName; words: query.
 ";
 
+const DISTINCT: &str = "
+Prints the different values at PATH of the documents of the collection COLL that
+the QUERY selects, or of all: a value a line, in the order of values. QUERY is
+that of find. PATH is keys with a dot between them; it goes through arrays, and
+of an array at its end each item is a value. Of equal values, as 1 and 1.0, the
+first one is printed. A document without PATH has no value.
+
+  --count          prints objects, as {\"value\":\"Ulm\",\"count\":3}: a value, and
+                   how many of the documents have it
+  --canonical      prints canonical Extended JSON, with the kind of each number
+  --wait SECONDS   waits so long if another process has FILE; else 5
+
+    fallowtime shop.db distinct orders customer.city
+    fallowtime shop.db distinct orders tags '{\"price\":{\"$gt\":10}}' --count
+
+On a line of a session the options are an object behind the QUERY:
+
+    [\"distinct\",\"orders\",\"tags\",{},{\"count\":true}]
+
+May be refused: NoFile, BadName, ReservedKey; words: query.
+";
+
 const IMPORT: &str = "
 Puts the documents of the file INPUT, or of standard input, into the collection
 COLL, all or none, and prints their number. They are BSON, one after the other,
-each with its _id; those of an INPUT .json, .jsonl or .ndjson are JSON. A FILE that
-isn't there is made.
+each with its _id; those of an INPUT .json, .jsonl or .ndjson are JSON. A FILE
+that isn't there is made.
 
   --json           reads lines of Extended JSON, a document each, which without
-                   an _id gets an ObjectId; a line of no bytes is left out. INPUT
-                   may be an array of documents, too
+                   an _id gets an ObjectId; a line of no bytes is left out.
+                   INPUT may be an array of documents, too
   --wait SECONDS   waits so long if another process has FILE; else 5
 
     fallowtime shop.db import orders orders.bson
@@ -276,8 +405,8 @@ May be refused: NoFile, BadName, Writer.
 ";
 
 const COLLECTIONS: &str = "
-Prints the names of the collections that have a document, one a line; as texts of
-JSON if one of them has a line feed in it.
+Prints the names of the collections that have a document, one a line; as texts
+of JSON if one of them has a line feed in it.
 
   --wait SECONDS   waits so long if another process has FILE; else 5
 
@@ -289,9 +418,9 @@ May be refused: NoFile.
 
 const CHECK: &str = "
 Reads all of FILE and tests each row, page and index, and then prints how many
-documents all collections have, or is refused by what is at fault. Other commands
-that only read test no more than what they need. A line of a session counts alone,
-as all was tested when FILE was opened.
+documents all collections have, or is refused by what is at fault. Other
+commands that only read test no more than what they need. A line of a session
+counts alone, as all was tested when FILE was opened.
 
   --wait SECONDS   waits so long if another process has FILE; else 5
 
@@ -302,8 +431,8 @@ May be refused: NoFile, NotAStore, BadRow, IdsCollide.
 ";
 
 const BACKUP: &str = "
-Writes all that FILE holds into the new file PATH, also while another process has
-FILE. PATH must not be there.
+Writes all that FILE holds into the new file PATH, also while another process
+has FILE. PATH must not be there.
 
   --wait SECONDS   waits so long if another process writes FILE without a pause;
                    else 5
@@ -316,8 +445,8 @@ May be refused: Exists, NoFile.
 
 const INDEX: &str = "
 Makes an index of the collection COLL on a path, the keys between its dots as in
-a QUERY. No answer changes, and queries for a value there come sooner. It is kept
-in memory until the input ends.
+a QUERY. No answer changes, and queries for a value there come sooner. It is
+kept in memory until the input ends.
 
     [\"index\",\"orders\",\"customer.city\"]
 
@@ -333,10 +462,10 @@ May be refused: BadName; Words: collection, path.
 ";
 
 const IMPORT_ALL: &str = "
-Puts the documents of each DIR/COLL.bson into the collection COLL, and prints its
-name and their number. DIR is what mongodump makes for a database, and export-all.
-Each collection is one step: if one is refused, those that were printed stay. A
-FILE that isn't there is made.
+Puts the documents of each DIR/COLL.bson into the collection COLL, and prints
+its name and their number. DIR is what mongodump makes for a database, and
+export-all. Each collection is one step: if one is refused, those that were
+printed stay. A FILE that isn't there is made.
 
   --wait SECONDS   waits so long if another process has FILE; else 5
 
@@ -349,9 +478,9 @@ TooDeep, TooLong, BadName, Places.
 
 const EXPORT_ALL: &str = "
 Writes all documents of each collection into DIR/COLL.bson, as they are at one
-moment, and beside it what mongorestore reads, DIR/COLL.metadata.json, and prints
-the name of each and their number. A DIR that isn't there is made; no file is
-written over.
+moment, and beside it what mongorestore reads, DIR/COLL.metadata.json, and
+prints the name of each and their number. A DIR that isn't there is made; no
+file is written over.
 
   --wait SECONDS   waits so long if another process writes FILE without a pause;
                    else 5
@@ -363,10 +492,10 @@ May be refused: NoFile.
 ";
 
 const EDIT: &str = "
-Opens the document with this _id in $VISUAL, $EDITOR or vi, as canonical Extended
-JSON, and puts what is saved there in its place. If that is no document with the
-same _id, or the document was changed meanwhile, nothing is changed, and the file
-is named in which it is.
+Opens the document with this _id in $VISUAL, $EDITOR or vi, as canonical
+Extended JSON, and puts what is saved there in its place. If that is no document
+with the same _id, or the document was changed meanwhile, nothing is changed,
+and the file is named in which it is.
 
   --wait SECONDS   waits so long if another process has FILE; else 5
 
@@ -378,8 +507,8 @@ Nul; words: id, words: JSON.
 ";
 
 const ABOUT_VERSION: &str = "
-Prints `fallowtime` and the number of this version. fallowtime --version says, too,
-from which commit the program was built, and how.
+Prints `fallowtime` and the number of this version. fallowtime --version says,
+too, from which commit the program was built, and how.
 ";
 
 /// The version, as the file VERSION has it.
@@ -397,9 +526,13 @@ pub(crate) fn text_of(command: Command) -> &'static str {
         Command::Update => UPDATE,
         Command::ReplaceOne => REPLACE_ONE,
         Command::Delete => DELETE,
+        Command::FindAndUpdate => FIND_AND_UPDATE,
+        Command::FindAndReplace => FIND_AND_REPLACE,
+        Command::FindAndDelete => FIND_AND_DELETE,
         Command::Remove => REMOVE,
         Command::Find => FIND,
         Command::Count => COUNT,
+        Command::Distinct => DISTINCT,
         Command::Import => IMPORT,
         Command::Export => EXPORT,
         Command::Collections => COLLECTIONS,

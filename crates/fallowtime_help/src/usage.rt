@@ -42,9 +42,13 @@ fn options_of(allowed: Allowed) -> &'static str
 {
     if allowed.lines {
         " [--json]"
+    } else if allowed.many && allowed.upsert {
+        " [--many] [--upsert]"
     } else if allowed.many {
         " [--many]"
-    } else if allowed.arranged {
+    } else if allowed.upsert {
+        " [--upsert]"
+    } else if allowed.arranged || allowed.counts {
         " [--OPTION ..]"
     } else if allowed.canonical && allowed.bytes {
         " [--canonical | --bson]"

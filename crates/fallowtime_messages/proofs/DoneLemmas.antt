@@ -69,7 +69,7 @@ one_done s t d did = one_more s s t [] d (none_done s) did
 by_more : (base : Database) (Before More : Trees → Type 0) → ((db : Trees) → Before db → More db) → (docs : List TableRow) (d : Deed) (db : Trees) → LeftByDeed base Before docs (Some d) db → LeftByDeed base More docs (Some d) db
 by_more base Before More was docs d db h = λ a shown. more_by_request base Before More was d.name a db d.request (reply_of d.outcome) (h a shown)
 
-along_more : (base : Database) (Before More : Trees → Type 0) → ((db : Trees) → Before db → More db) → (ds : List Deed) (docs after : List TableRow) (h : AreDone ds docs after) (db : Trees) → LeftAlong base Before ds docs after h db → LeftAlong base More ds docs after h db
+pub along_more : (base : Database) (Before More : Trees → Type 0) → ((db : Trees) → Before db → More db) → (ds : List Deed) (docs after : List TableRow) (h : AreDone ds docs after) (db : Trees) → LeftAlong base Before ds docs after h db → LeftAlong base More ds docs after h db
 along_more base Before More was [] docs after h db left = was db left
 along_more base Before More was (d ∷ ds) docs after (mid, c, h) db left =
     along_more base (LeftByDeed base Before docs (Some d)) (LeftByDeed base More docs (Some d)) (by_more base Before More was docs d) ds mid after h db left

@@ -31,13 +31,15 @@ IsDeedOf s d = (d.name ≡ string_bytes s.name) × (d.request ≡ s.request) × 
 -- whether a change isn't made
 abbrev pub is_refused : Result Answer StoreError → Bool
 is_refused (Ok (answer.NotUpdated i e)) = true
+is_refused (Ok (answer.NotUpserted e)) = true
 is_refused (Ok a) = false
 is_refused (Err e) = true
 
--- how many documents it was of
+-- how many documents it was of, one that was put in among them
 abbrev pub count_of : Result Answer StoreError → ℕ
 count_of (Ok (answer.Number n)) = n
 count_of (Ok (answer.Updated m c)) = m
+count_of (Ok (answer.Upserted v)) = 1
 count_of r = 0
 
 -- and how many of them are other ones now
@@ -48,6 +50,7 @@ changed_of r = 0
 -- why it isn't made, of the statement at a place
 abbrev pub errors_of : ℕ → Result Answer StoreError → List Value
 errors_of i (Ok (answer.NotUpdated j e)) = write_error (pos i) (update_code e) (update_name e) ∷ []
+errors_of i (Ok (answer.NotUpserted e)) = write_error (pos i) (update_code e) (update_name e) ∷ []
 errors_of i (Ok a) = []
 errors_of i (Err e) = write_error (pos i) (code_of e.kind) (kind_name e.kind) ∷ []
 

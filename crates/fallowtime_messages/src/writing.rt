@@ -52,7 +52,7 @@ fn is_refused(outcome: &Result<Answer, StoreError>) -> bool
     ensures { result ≡ is_refused outcome.now }
 {
     match outcome {
-        Ok(Answer::NotUpdated(_, _)) => true,
+        Ok(Answer::NotUpdated(_, _)) | Ok(Answer::NotUpserted(_)) => true,
         Ok(_) => false,
         Err(_) => true,
     }
@@ -65,6 +65,7 @@ fn count_of(outcome: &Result<Answer, StoreError>) -> u64
     match outcome {
         Ok(Answer::Number(number)) => *number,
         Ok(Answer::Updated(matched, _)) => *matched,
+        Ok(Answer::Upserted(_)) => 1,
         _ => 0,
     }
 }
@@ -89,7 +90,7 @@ fn push_error(
     ensures { OnOk result (map view errors.new.items ≡ map view errors.old.items ++ errors_of place outcome.now) }
 {
     match outcome {
-        Ok(Answer::NotUpdated(_, error)) => {
+        Ok(Answer::NotUpdated(_, error)) | Ok(Answer::NotUpserted(error)) => {
             let told = write_error(alloc, place, update_code(*error), update_name(*error))?;
             errors.push(told)?;
         }

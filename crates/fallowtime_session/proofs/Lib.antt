@@ -4,5 +4,6 @@ pub mod CountLemmas
 pub mod SessionLemmas
 pub mod TextLemmas
 pub mod WriteLemmas
+pub mod ValueLemmas
 pub mod TreeLemmas
 pub mod ReplyLemmas

@@ -6,7 +6,6 @@ use Rattle.cli_lines.specs.Line.{Keeps, KeepsSo}
 use Rattle.cli_lines.specs.declared.line.Kept.{Kept}
 use Rattle.cli_lines.specs.declared.line.Kept.TheVariants.{Memory, TooLong, Whole}
 use Rattle.cli_lines.specs.declared.line.Line.{Line}
-use Rattle.cli_lines.specs.declared.line.TheConstants.{MOST}
 use Rattle.fallowtime_texts.specs.declared.made.IdMaker.{IdMaker}
 use Rattle.fallowtime_session.specs.Answers.{line_of, memory}
 use Rattle.fallowtime_session.specs.Deeds.{DoesOne}

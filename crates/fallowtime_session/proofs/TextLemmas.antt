@@ -70,7 +70,7 @@ at_place (c ∷ cs) (d ∷ ds) (suc i) b (kept, are) within at =
     let more = at_place cs ds i b (kept.1, tails c.items (encode d) (bytes_of_each cs) (map encode ds) are) (omega (arith, within)) at in
     record { here = more.here; rest = more.rest; from = more.from; behind = more.behind; kept = more.kept; is = more.is }
 
-text_moved : (old now new comma text more : List ℕ) → new ≡ now ++ (comma ++ text) → new ++ more ≡ now ++ (comma ++ (text ++ more))
+pub text_moved : (old now new comma text more : List ℕ) → new ≡ now ++ (comma ++ text) → new ++ more ≡ now ++ (comma ++ (text ++ more))
 text_moved old now new comma text more e = ap (λ bs. bs ++ more) e ∙ append_assoc now (comma ++ text) more ∙ ap (λ bs. now ++ bs) (append_assoc comma text more)
 
 module _ (bodies : Bodies) (old now new body : List ℕ) (i : ℕ) (b : Vec ℕ Global) (so : SoFar bodies old now i) (within : i < length bodies) (at : get_or bodies i b ≡ b) (is_its : body ≡ b.items) where

@@ -1,11 +1,11 @@
 -- The object of an answer, as its tokens.
-use Rattle.std.proofs.Common.{◌≡◌, ℕ, zero, suc, Bool, true, false, List, [], ◌∷◌, ◌++◌, map, codes, string_bytes, String, Option, Some, None, Result, Ok, Err, Vec, IfOk, fold, inl, refl, ap, sym, ◌∙◌, append_assoc}
+use Rattle.std.proofs.Common.{◌≡◌, ℕ, zero, suc, Bool, true, false, List, [], ◌∷◌, ◌++◌, map, codes, decimal, string_bytes, String, Option, Some, None, Result, Ok, Err, Vec, IfOk, fold, inl, refl, ap, sym, ◌∙◌, append_assoc}
 use Rattle.std.proofs.lemmas.List.Sums.{fold-append}
 use Rattle.std.specs.declared.alloc.AllocError.{AllocError}
 use Rattle.std.specs.declared.alloc.Global.{Global}
 use Rattle.json.specs.Json.{Json, null, boolean, number, string as string_of, array, object, Items, no_items, item, Members, no_members, member}
-use Rattle.json.specs.Print.{print, print_from, ends}
-use Rattle.json.specs.Token.{Token, begin_array, end_array, end_object, key, string}
+use Rattle.json.specs.Print.{print, print_from, ends, escape_byte}
+use Rattle.json.specs.Token.{Token, begin_array, end_array, end_object, key, number as number_token, string}
 use Rattle.json.specs.Tree.{items_tokens, json_tokens, members_tokens}
 use Rattle.json.proofs.Printed.Tokens.{ends_push, print_from-append}
 use Rattle.bson_base.specs.Value.{Value, Members as Document}
@@ -13,9 +13,11 @@ use Rattle.bson_bytes.specs.Encode.{encode}
 use Rattle.bson_json.specs.Prints.{IsTextOf}
 use Rattle.bson_model.specs.declared.extjson.ser.Mode.TheVariants.{Canonical}
 use Rattle.fallowtime_texts.specs.Printed.{PrintsDocument}
+use Rattle.store_distinct.specs.declared.counted.Counted.{Counted}
 use Rattle.store_model.specs.State.{IsKept}
-use Rattle.fallowtime_session.specs.Answers.{IsLineOf, IsMember, ShowsBodies, ShowsBody, behind_id, line_of, one, texts}
-use Rattle.fallowtime_session.specs.Objects.{Makes, MakesLine, PutsBodies, begun, comma_before, items_text}
+use Rattle.fallowtime_commands.specs.Printing.{counted_text}
+use Rattle.fallowtime_session.specs.Answers.{IsLineOf, IsMember, IsUpsert, ShowsBodies, ShowsBody, ShowsValues, behind_id, line_of, one, texts, upsert}
+use Rattle.fallowtime_session.specs.Objects.{Makes, MakesLine, PutsBodies, PutsValues, begun, comma_before, items_text}
 use Rattle.fallowtime_requests.specs.declared.reading.Layout.TheVariants.{Each}
 
 -- the tokens of the object: those that it is begun with, and those of the members
@@ -76,19 +78,37 @@ behind_key first k j =
     ap print whole ∙ print_from-append false front (value ++ end_object ∷ [])
     ∙ ap (λ b. print front ++ print_from b (value ++ end_object ∷ [])) (ends_push false first (key k)) ∙ ap (λ bs. print front ++ bs) last
 
+-- the line of members of which the last one has these tokens in front
+last_line : (id : Option Json) (js : Members) (first : List Token) (k : List ℕ) (j : Json) (written : List Token) (text line : List ℕ) → json_tokens (object (behind_id id js)) ≡ first ++ (key k ∷ (json_tokens j ++ end_object ∷ []))
+    → line ≡ print written ++ (text ++ codes "}\n") → written ≡ first ++ key k ∷ [] → text ≡ print (json_tokens j) → line ≡ line_of id js
+last_line id js first k j written text line all made named is =
+    let whole : print (json_tokens (object (behind_id id js))) ≡ print (first ++ key k ∷ []) ++ (print (json_tokens j) ++ 125 ∷ []) = ap print all ∙ behind_key first k j in
+    let closed : (print (first ++ key k ∷ []) ++ (print (json_tokens j) ++ 125 ∷ [])) ++ 10 ∷ [] ≡ print (first ++ key k ∷ []) ++ (print (json_tokens j) ++ codes "}\n") =
+    append_assoc (print (first ++ key k ∷ [])) (print (json_tokens j) ++ 125 ∷ []) (10 ∷ []) ∙ ap (λ bs. print (first ++ key k ∷ []) ++ bs) (append_assoc (print (json_tokens j)) (125 ∷ []) (10 ∷ [])) in
+    made ∙ ap (λ ts. print ts ++ (text ++ codes "}\n")) named ∙ ap (λ t. print (first ++ key k ∷ []) ++ (t ++ codes "}\n")) is ∙ sym closed ∙ ap (λ bs. bs ++ 10 ∷ []) (sym whole)
+
 pub member_line : (id : Option Json) (k : List ℕ) (j : Json) (written : List Token) (text line : List ℕ) → line ≡ print written ++ (text ++ codes "}\n") → written ≡ begun id ++ key k ∷ [] → text ≡ print (json_tokens j) → line ≡ line_of id (one k j)
-member_line id k j written text line made named is =
-    let whole : print (json_tokens (object (behind_id id (one k j)))) ≡ print (begun id ++ key k ∷ []) ++ (print (json_tokens j) ++ 125 ∷ []) =
-    ap print (object_tokens id (one k j)) ∙ behind_key (begun id) k j in
-    let closed : (print (begun id ++ key k ∷ []) ++ (print (json_tokens j) ++ 125 ∷ [])) ++ 10 ∷ [] ≡ print (begun id ++ key k ∷ []) ++ (print (json_tokens j) ++ codes "}\n") =
-    append_assoc (print (begun id ++ key k ∷ [])) (print (json_tokens j) ++ 125 ∷ []) (10 ∷ []) ∙ ap (λ bs. print (begun id ++ key k ∷ []) ++ bs) (append_assoc (print (json_tokens j)) (125 ∷ []) (10 ∷ [])) in
-    made ∙ ap (λ ts. print ts ++ (text ++ codes "}\n")) named ∙ ap (λ t. print (begun id ++ key k ∷ []) ++ (t ++ codes "}\n")) is ∙ sym closed ∙ ap (λ bs. bs ++ 10 ∷ []) (sym whole)
+member_line id k j written text line made named is = last_line id (one k j) (begun id) k j written text line (object_tokens id (one k j)) made named is
 
 -- so of the line that is made, with the text of a value
 pub value_made : (id : Option Json) (k : List ℕ) (v : Value) (written : List Token) (text : List ℕ) (r : Result (Vec ℕ Global) AllocError) → IfOk r (λ (line : Vec ℕ Global). line.items ≡ print written ++ (text ++ codes "}\n")) → written ≡ begun id ++ key k ∷ []
     → IsTextOf Canonical v text → Makes (IsLineOf id (IsMember k v)) r
 value_made id k v written text (Ok line) made named (j, writes, is, back) = (one k j, (j, writes, refl), member_line id k j written text line.items made named is)
 value_made id k v written text (Err e) made named is = made
+
+-- ---- an upsert
+
+-- the tokens in front of the id
+abbrev pub none_matched : List Token
+none_matched = key (codes "matched") ∷ number_token (decimal 0) ∷ key (codes "changed") ∷ number_token (decimal 0) ∷ []
+
+pub upsert_made : (id : Option Json) (v : Value) (written : List Token) (text : List ℕ) (r : Result (Vec ℕ Global) AllocError) → IfOk r (λ (line : Vec ℕ Global). line.items ≡ print written ++ (text ++ codes "}\n"))
+    → written ≡ (begun id ++ none_matched) ++ key (codes "upserted") ∷ [] → IsTextOf Canonical v text → Makes (IsLineOf id (IsUpsert v)) r
+upsert_made id v written text (Ok line) made named (j, writes, is, back) =
+    let all : json_tokens (object (behind_id id (upsert j))) ≡ (begun id ++ none_matched) ++ (key (codes "upserted") ∷ (json_tokens j ++ end_object ∷ [])) =
+    object_tokens id (upsert j) ∙ sym (append_assoc (begun id) none_matched (key (codes "upserted") ∷ (json_tokens j ++ end_object ∷ []))) in
+    (upsert j, (j, writes, refl), last_line id (upsert j) (begun id ++ none_matched) (codes "upserted") j written text line.items all made named is)
+upsert_made id v written text (Err e) made named is = made
 
 -- ---- the text of an array
 
@@ -168,4 +188,24 @@ documents_made id bodies written old new line opened named puts made = λ ds kep
       one (codes "documents") (array js),
       inl (p.0, (array js, (js, p.1.1, refl), refl)),
       member_line id (codes "documents") (array js) written (91 ∷ (items_text 0 js ++ 93 ∷ [])) line whole named (sym (array_print js)),
+    )
+
+-- ---- values
+
+-- an object with a value and a number
+pub counted_print : (j : Json) (n : ℕ) → print (json_tokens (object (member (codes "value") j (one (codes "count") (number (decimal n)))))) ≡ counted_text (print (json_tokens j)) (decimal n)
+unfolding print_from escape_byte
+counted_print j n =
+    let last = key (codes "count") ∷ number_token (decimal n) ∷ end_object ∷ [] in
+    ap (λ bs. codes "{\"value\":" ++ bs) (print_from-append false (json_tokens j) last ∙ ap (λ b. print (json_tokens j) ++ print_from b last) (closes false j))
+
+-- the line of values that have texts
+pub values_made : (id : Option Json) (counts : Bool) (cs : List Counted) (written : List Token) (old new line : List ℕ) → old ≡ print written ++ 91 ∷ [] → written ≡ begun id ++ key (codes "values") ∷ [] → PutsValues counts cs old new (Ok tt) → line ≡ new ++ codes "]}\n"
+    → IsLineOf id (ShowsValues counts cs) line
+values_made id counts cs written old new line opened named (free, js, each, put) made =
+    let whole : line ≡ print written ++ ((91 ∷ (items_text 0 js ++ 93 ∷ [])) ++ codes "}\n") =
+    made ∙ ap (λ bs. bs ++ codes "]}\n") (put ∙ ap (λ bs. bs ++ items_text 0 js) opened) ∙ array_closed (print written) (items_text 0 js) in (
+      one (codes "values") (array js),
+      inl (free, (js, each, refl)),
+      member_line id (codes "values") (array js) written (91 ∷ (items_text 0 js ++ 93 ∷ [])) line whole named (sym (array_print js)),
     )

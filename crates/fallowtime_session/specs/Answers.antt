@@ -1,7 +1,8 @@
 -- The line of an answer.
-use Rattle.std.specs.Prelude.{◌≡◌, ◌⊎◌, ℕ, zero, suc, false, List, [], ◌∷◌, ◌++◌, map, codes, decimal, string_bytes, Option, Some, None, Result, Ok, Err}
+use Rattle.std.specs.Prelude.{◌≡◌, ◌⊎◌, ℕ, zero, suc, Bool, true, false, List, [], ◌∷◌, ◌++◌, map, codes, decimal, string_bytes, Option, Some, None, Result, Ok, Err, Vec}
 use Rattle.std.specs.List.{flat_map}
-use Rattle.json.specs.Json.{Json, Items, no_items, item, Members, no_members, member, boolean, string, number, array as json_array, object}
+use Rattle.std.specs.declared.alloc.Global.{Global}
+use Rattle.json.specs.Json.{Json, null, Items, no_items, item, Members, no_members, member, boolean, string, number, array as json_array, object}
 use Rattle.json.specs.Print.{print}
 use Rattle.json.specs.Tree.{json_tokens}
 use Rattle.bson_base.specs.Value.{Value, Members as Document, scalar, binary, array, document}
@@ -15,6 +16,8 @@ use Rattle.bson_store.specs.Export.{bytes_of_each}
 use Rattle.fallowtime_commands.specs.declared.answer.Answer.{Answer}
 use Rattle.fallowtime_commands.specs.declared.answer.Answer.TheVariants as answer
 use Rattle.fallowtime_commands.specs.Reports.{update_name}
+use Rattle.fallowtime_texts.specs.Printed.{holding}
+use Rattle.store_distinct.specs.declared.counted.Counted.{Counted}
 use Rattle.store_model.specs.Refusal.{kind_name}
 use Rattle.store_model.specs.State.{IsKept, AreKept}
 use Rattle.store_model.specs.declared.error.StoreError.{StoreError}
@@ -93,9 +96,41 @@ ShowsDocuments ds js =
     (AreFree ds × IsMember (codes "documents") (array_of ds) js)
     ⊎ ((i : ℕ) × (path : List ℕ) × IsFirstReserved ds i path × (js ≡ refusal (codes "ReservedKey") (Some i) (Some path)))
 
+-- the value, or an object with it and the number of documents that have it
+abbrev pub ShowsValue : Bool → Counted → Json → Type 0
+ShowsValue false c j = Writes Canonical (view c.value) j
+ShowsValue true c j = (k : Json) × Writes Canonical (view c.value) k × (j ≡ object (member (codes "value") k (one (codes "count") (number (decimal c.documents)))))
+
+abbrev pub ShowEach : Bool → List Counted → Items → Type 0
+ShowEach counts [] js = js ≡ no_items
+ShowEach counts (c ∷ cs) js = (j : Json) × (rest : Items) × ShowsValue counts c j × ShowEach counts cs rest × (js ≡ item j rest)
+
+-- no document in a value has a reserved key, nor a value itself
+abbrev pub HaveTexts : List Counted → Type 0
+HaveTexts [] = Unit {0}
+HaveTexts (c ∷ cs) = (has_reserved (holding (view c.value)) ≡ false) × HaveTexts cs
+
+-- the first value that has none, by the path to the first reserved key in it, behind `value`
+abbrev pub IsUntold : List Counted → List ℕ → Type 0
+IsUntold [] path = ⊥
+IsUntold (c ∷ cs) path = (reserved_path_below (holding (view c.value)) ≡ Some path) ⊎ ((has_reserved (holding (view c.value)) ≡ false) × IsUntold cs path)
+
+-- different values in their order; or the first one that has no text
+abbrev pub ShowsValues : Bool → List Counted → Members → Type 0
+ShowsValues counts cs js =
+    (HaveTexts cs × ((vs : Items) × ShowEach counts cs vs × (js ≡ one (codes "values") (json_array vs))))
+    ⊎ ((path : List ℕ) × IsUntold cs path × (js ≡ refusal (codes "ReservedKey") None (Some path)))
+
 abbrev pub texts : List (List ℕ) → Items
 texts [] = no_items
 texts (t ∷ ts) = item (string t) (texts ts)
+
+-- none was selected, and a document went in with this `_id`
+abbrev pub upsert : Json → Members
+upsert id = member (codes "matched") (number (decimal 0)) (member (codes "changed") (number (decimal 0)) (one (codes "upserted") id))
+
+abbrev pub IsUpsert : Value → Members → Type 0
+IsUpsert v js = (j : Json) × Writes Canonical v j × (js ≡ upsert j)
 
 -- ---- lines of answers
 
@@ -112,6 +147,11 @@ abbrev pub ShowsBodies : Layout → Option Json → List (List ℕ) → List ℕ
 ShowsBodies Each id bodies line = (ds : List Document) → AreKept ds → bodies ≡ map encode ds → IsLineOf id (ShowsDocuments ds) line
 ShowsBodies Stream id bodies line = IsLineOf id (IsMember (codes "bytes") (scalar (binary Generic (flat_map (λ (b : List ℕ). b) bodies)))) line
 
+-- the line of the document that was found and changed, if one was
+abbrev pub ShowsFound : Option Json → Option (Vec ℕ Global) → List ℕ → Type 0
+ShowsFound id None line = line ≡ line_of id (one (codes "document") null)
+ShowsFound id (Some body) line = ShowsBody id body.items line
+
 -- the line of the answer for what the store returned
 abbrev pub Shows : Layout → Option Json → Result Answer StoreError → List ℕ → Type 0
 Shows l id (Ok answer.Nothing) line = line ≡ line_of id no_members
@@ -120,7 +160,11 @@ Shows l id (Ok (answer.Flag b)) line = line ≡ line_of id (one (codes "was_ther
 Shows l id (Ok (answer.Number n)) line = line ≡ line_of id (one (codes "count") (number (decimal n)))
 Shows l id (Ok (answer.Document body)) line = ShowsBody id body.items line
 Shows l id (Ok (answer.Documents bodies)) line = ShowsBodies l id (bytes_of_each bodies.items) line
+Shows l id (Ok (answer.Found found)) line = ShowsFound id found line
+Shows l id (Ok (answer.Values cs counts)) line = IsLineOf id (ShowsValues counts cs.items) line
 Shows l id (Ok (answer.Names names)) line = line ≡ line_of id (one (codes "names") (json_array (texts (map string_bytes names.items))))
 Shows l id (Ok (answer.Updated m c)) line = line ≡ line_of id (update m c)
 Shows l id (Ok (answer.NotUpdated i e)) line = line ≡ line_of id (refusal (update_name e) (Some i) None)
+Shows l id (Ok (answer.Upserted own)) line = IsLineOf id (IsUpsert (view own)) line
+Shows l id (Ok (answer.NotUpserted e)) line = line ≡ line_of id (refusal (update_name e) None None)
 Shows l id (Err e) line = line ≡ line_of id (refusal (kind_name e.kind) e.document None)

@@ -1,5 +1,5 @@
 -- The object of an answer, as it is written.
-use Rattle.std.specs.Prelude.{◌≡◌, ℕ, zero, suc, false, List, [], ◌∷◌, ◌++◌, map, codes, string_bytes, Option, Some, None, option_map, Result, Ok, Err, IfOk, Vec}
+use Rattle.std.specs.Prelude.{◌≡◌, ℕ, zero, suc, Bool, false, List, [], ◌∷◌, ◌++◌, map, codes, string_bytes, Option, Some, None, option_map, Result, Ok, Err, IfOk, Vec}
 use Rattle.std.specs.Borrow.{Bor}
 use Rattle.std.specs.Option.{ForSome}
 use Rattle.std.specs.declared.alloc.AllocError.{AllocError}
@@ -14,12 +14,14 @@ use Rattle.bson_base.specs.Value.{Members as Document, document}
 use Rattle.bson_bytes.specs.Encode.{encode}
 use Rattle.bson_json.specs.Form.{Writes, WritesItems}
 use Rattle.bson_meaning.specs.JsonReserved.{has_reserved, reserved_path_below}
-use Rattle.bson_model.specs.View.{items_of}
+use Rattle.bson_model.specs.View.{items_of, view}
 use Rattle.bson_model.specs.declared.extjson.ser.Mode.TheVariants.{Canonical}
+use Rattle.fallowtime_texts.specs.Printed.{holding}
 use Rattle.fallowtime_texts.specs.declared.printed.PrintFault.{PrintFault}
 use Rattle.fallowtime_texts.specs.declared.printed.PrintFault.TheVariants.{ReservedKey, Damaged, Memory}
+use Rattle.store_distinct.specs.declared.counted.Counted.{Counted}
 use Rattle.store_model.specs.State.{IsKept, AreKept}
-use Rattle.fallowtime_session.specs.Answers.{AreFree, IsFirstReserved, line_of, refusal}
+use Rattle.fallowtime_session.specs.Answers.{AreFree, HaveTexts, IsFirstReserved, IsUntold, ShowEach, ShowsValue, line_of, refusal}
 use Rattle.fallowtime_session.specs.declared.bodies.BodyFault.{BodyFault}
 
 -- nothing in front of the first item, and a comma in front of each other one
@@ -82,3 +84,19 @@ PutsBody i body old new (Ok x) =
 PutsBody i body old new (Err (ReservedKey path)) = (d : Document) → IsKept d → body ≡ encode d → reserved_path_below d ≡ Some (string_bytes path)
 PutsBody i body old new (Err Damaged) = (d : Document) → IsKept d → body ≡ encode d → ⊥
 PutsBody i body old new (Err Memory) = Unit {0}
+
+-- ---- values
+
+-- the value, or the object with it and its number, was added after i others; or it has no text
+abbrev pub PutsValue : ℕ → Bool → Counted → List ℕ → List ℕ → Result (Unit {0}) PrintFault → Type 0
+PutsValue i counts c old new (Ok x) = (has_reserved (holding (view c.value)) ≡ false) × (j : Json) × ShowsValue counts c j × (new ≡ old ++ (comma_before i ++ print (json_tokens j)))
+PutsValue i counts c old new (Err (ReservedKey path)) = reserved_path_below (holding (view c.value)) ≡ Some (string_bytes path)
+PutsValue i counts c old new (Err Damaged) = ⊥
+PutsValue i counts c old new (Err Memory) = Unit {0}
+
+-- all of them were; or the first one that has no text is told
+abbrev pub PutsValues : Bool → List Counted → List ℕ → List ℕ → Result (Unit {0}) PrintFault → Type 0
+PutsValues counts cs old new (Ok x) = HaveTexts cs × (js : Items) × ShowEach counts cs js × (new ≡ old ++ items_text 0 js)
+PutsValues counts cs old new (Err (ReservedKey path)) = IsUntold cs (string_bytes path)
+PutsValues counts cs old new (Err Damaged) = ⊥
+PutsValues counts cs old new (Err Memory) = Unit {0}

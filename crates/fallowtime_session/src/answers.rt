@@ -1,15 +1,16 @@
 //! The lines of answers.
 
-ghost use Rattle.std.specs.Prelude.{codes, decimal, map, string_bytes};
+ghost use Rattle.std.specs.Prelude.{◌≡◌, ◌++◌, OnOk, codes, decimal, map, string_bytes};
 ghost use Rattle.std.specs.Option.{option_map};
-ghost use Rattle.json.specs.Json.{array, boolean, no_members, number as number_form};
+ghost use Rattle.json.specs.Json.{array, boolean, no_members, null, number as number_form};
 ghost use Rattle.bson_model.specs.View.{view};
 ghost use Rattle.bson_store.specs.Export.{bytes_of_each};
-ghost use Rattle.fallowtime_session.specs.Answers.{IsLineOf, IsMember, Shows, ShowsBodies, ShowsBody, memory, one, refusal, texts, update, words};
-ghost use Rattle.fallowtime_session.specs.Objects.{IsWritable, Makes, MakesLine, ShowsFault, id_tree};
+ghost use Rattle.fallowtime_commands.specs.Printing.{value_text};
+ghost use Rattle.fallowtime_session.specs.Answers.{IsLineOf, IsMember, Shows, ShowsBodies, ShowsBody, ShowsFound, ShowsValues, memory, one, refusal, texts, update, words, IsUpsert};
+ghost use Rattle.fallowtime_session.specs.Objects.{IsWritable, Makes, MakesLine, PutsValue, PutsValues, ShowsFault, comma_before, id_tree};
 ghost use Rattle.fallowtime_session.specs.Places.{place_text};
 
-use crate::bodies::{BodyFault, joined, push_bodies};
+use crate::bodies::{BodyFault, joined, push, push_bodies};
 use crate::objects::{begin, end, end_with, put_number};
 use crate::places::Place;
 use bson_json::parts::put_text;
@@ -19,9 +20,11 @@ use bson_model::{Binary, BinarySubtype, Bson};
 use bson_store::StoreError;
 use fallowtime_commands::{Answer, update_name};
 use fallowtime_requests::Layout;
-use fallowtime_texts::{PrintFault, text_of_body};
+use fallowtime_texts::{PrintFault, text_of_body, text_of_value};
+use itoa::Buffer;
 use json::Value;
 use std::alloc::{AllocError, Global};
+use store_distinct::Counted;
 
 /// The line of a refusal: its kind, the place of the document of several, and the path of the key.
 fn refusal_line(
@@ -133,6 +136,20 @@ fn update_line(
     end(out)
 }
 
+/// The line of a change that put a document in, with its `_id`.
+fn upsert_line(alloc: Global, id: Option<&Value<'_>>, own: &Bson) -> Result<Vec<u8>, AllocError>
+    requires { IsWritable id }
+    ensures { Makes (IsLineOf (id_tree id.entry) (IsUpsert (view own.now))) result }
+{
+    let mut text = String::new(alloc);
+    write_value(alloc, own, Mode::Canonical, &mut text)?;
+    let mut out = begin(alloc, id)?;
+    put_number(&mut out, "matched", 0)?;
+    put_number(&mut out, "changed", 0)?;
+    out.key("upserted")?;
+    end_with(out, text.as_str())
+}
+
 /// The line of names.
 fn names_line(
     alloc: Global,
@@ -206,6 +223,32 @@ fn document_line(alloc: Global, id: Option<&Value<'_>>, body: &[u8]) -> Result<V
     }
 }
 
+/// The line of no document where one might be.
+fn null_line(alloc: Global, id: Option<&Value<'_>>) -> Result<Vec<u8>, AllocError>
+    requires { IsWritable id }
+    ensures { MakesLine (id_tree id.entry) (one (codes "document") null) result }
+{
+    let mut out = begin(alloc, id)?;
+    out.key("document")?;
+    out.null()?;
+    end(out)
+}
+
+/// The line of the document that was found and changed, if one was.
+fn changed_line(
+    alloc: Global,
+    id: Option<&Value<'_>>,
+    found: &Option<Vec<u8>>,
+) -> Result<Vec<u8>, AllocError>
+    requires { IsWritable id }
+    ensures { Makes (ShowsFound (id_tree id.entry) found.now) result }
+{
+    match found {
+        Some(body) => document_line(alloc, id, body.as_slice()),
+        None => null_line(alloc, id),
+    }
+}
+
 /// The line of stored documents.
 fn documents_line(
     alloc: Global,
@@ -225,6 +268,87 @@ fn documents_line(
             Ok(line)
         }
         Err(BodyFault { index, fault }) => fault_line(alloc, id, Some(index), &fault),
+    }
+}
+
+/// Appends a value by its text, or an object with it and the number of documents, after a comma if there are others
+/// before it.
+fn push_value(
+    index: usize,
+    counted: &Counted,
+    counts: bool,
+    text: &str,
+    line: &mut Vec<u8>,
+) -> Result<(), AllocError>
+    ensures { OnOk result (line.new.items ≡ line.old.items
+        ++ (comma_before index ++ value_text counts text.now counted.now.documents)) }
+{
+    if !counts {
+        return push(line, index, text.as_bytes());
+    }
+    let mut digits = Buffer::new();
+    push(line, index, b"{\"value\":")?;
+    line.extend_from_slice(text.as_bytes())?;
+    line.extend_from_slice(b",\"count\":")?;
+    line.extend_from_slice(digits.format(counted.documents).as_bytes())?;
+    line.push(b'}')?;
+    Ok(())
+}
+
+/// The same of a value that may have no text. `text` is room that is kept from value to value.
+fn push_told(
+    alloc: Global,
+    index: usize,
+    counted: &Counted,
+    counts: bool,
+    text: &mut String,
+    line: &mut Vec<u8>,
+) -> Result<(), PrintFault>
+    ensures { PutsValue index counts counted.now line.old.items line.new.items result }
+{
+    text_of_value(alloc, &counted.value, Mode::Canonical, text)?;
+    match push_value(index, counted, counts, text.as_str(), line) {
+        Ok(()) => Ok(()),
+        Err(_) => Err(PrintFault::Memory),
+    }
+}
+
+/// Appends values, with commas between them; or tells the fault of the first that has no text.
+fn push_values(
+    alloc: Global,
+    values: &[Counted],
+    counts: bool,
+    line: &mut Vec<u8>,
+) -> Result<(), PrintFault>
+    ensures { PutsValues counts values.now line.old.items line.new.items result }
+{
+    let mut text = String::new(alloc);
+    for (index, counted) in values.iter().enumerate() {
+        push_told(alloc, index, counted, counts, &mut text, line)?;
+    }
+    Ok(())
+}
+
+/// The line of different values.
+fn values_line(
+    alloc: Global,
+    id: Option<&Value<'_>>,
+    values: &[Counted],
+    counts: bool,
+) -> Result<Vec<u8>, AllocError>
+    requires { IsWritable id }
+    ensures { Makes (IsLineOf (id_tree id.entry) (ShowsValues counts values.now)) result }
+{
+    let mut out = begin(alloc, id)?;
+    out.key("values")?;
+    let mut line = out.into_inner();
+    line.push(b'[')?;
+    match push_values(alloc, values, counts, &mut line) {
+        Ok(()) => {
+            line.extend_from_slice(b"]}\n")?;
+            Ok(line)
+        }
+        Err(fault) => fault_line(alloc, id, None, &fault),
     }
 }
 
@@ -248,10 +372,16 @@ pub(crate) fn answer_line(
             Layout::Each => documents_line(alloc, id, bodies.as_slice()),
             Layout::Stream => stream_line(alloc, id, bodies.as_slice()),
         },
+        Ok(Answer::Found(found)) => changed_line(alloc, id, found),
         Ok(Answer::Names(names)) => names_line(alloc, id, names.as_slice()),
+        Ok(Answer::Values(values, counts)) => values_line(alloc, id, values.as_slice(), *counts),
         Ok(Answer::Updated(matched, changed)) => update_line(alloc, id, *matched, *changed),
         Ok(Answer::NotUpdated(at, error)) => {
             refusal_line(alloc, id, update_name(*error), Some(*at), None)
+        }
+        Ok(Answer::Upserted(own)) => upsert_line(alloc, id, own),
+        Ok(Answer::NotUpserted(error)) => {
+            refusal_line(alloc, id, update_name(*error), None, None)
         }
         Err(error) => refusal_line(alloc, id, error.kind.name(), error.document, None),
     }

@@ -20,7 +20,7 @@ pub(crate) struct BodyFault {
 }
 
 /// Appends what comes before a text to the line, and then the text.
-fn push(line: &mut Vec<u8>, index: usize, text: &[u8]) -> Result<(), AllocError>
+pub(crate) fn push(line: &mut Vec<u8>, index: usize, text: &[u8]) -> Result<(), AllocError>
     ensures { OnOk result (line.new.items ≡ line.old.items ++ (comma_before index ++ text.now)) }
 {
     if index > 0 {

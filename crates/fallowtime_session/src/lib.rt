@@ -10,4 +10,4 @@ mod questions;
 mod serving;
 mod turns;
 
-pub use serving::serve;
+pub use serving::{send, serve};

@@ -23,8 +23,8 @@ use std::alloc::Global;
 /// The answer if there is no memory for another one.
 const OUT_OF_MEMORY: &[u8; 19] = b"{\"error\":\"Memory\"}\n";
 
-/// Writes the line of an answer.
-fn send<O: Sink>(output: &mut O, line: &[u8]) -> Result<(), ErrorKind>
+/// Writes an answer. `Writer` if the write failed, which may have written a beginning of it.
+pub fn send<O: Sink>(output: &mut O, line: &[u8]) -> Result<(), ErrorKind>
     requires { CanRefuse (O.tally output.old) }
     ensures { Sends result line.now (O.tally output.old) (O.tally output.new) }
 {

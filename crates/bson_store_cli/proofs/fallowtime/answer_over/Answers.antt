@@ -1,7 +1,7 @@
-use Rattle.std.proofs.Common.{inl, inr, refl, subst, sym}
+use Rattle.std.proofs.Common.{inl, inr, option_map, refl, subst, sym}
 use Rattle.sqlite.specs.Held.{state}
 use Rattle.bson_store.specs.Calls.{store_connection}
-use Rattle.bson_store_cli.specs.Serving.{AnswersLines}
+use Rattle.bson_store_cli.specs.Serving.{AnswersRequests}
 use Rattle.bson_store_cli.proofs.fallowtime.answer_over.Goals as goal
 
 pub returns-in-Ok : goal.returns-in-Ok
@@ -16,7 +16,7 @@ returns-in-Ok g c =
     inl (
       from,
       record { opens = opened.opened; finds = opened.finds; crash = opened.crash },
-      subst (λ k. AnswersLines c.args.maker.now served.new.maker fed left before after served.result (state g.S.Store from) (state g.S.Store k)) (sym c.close.ensures) served.ensures,
+      subst (λ k. AnswersRequests (option_map (λ t. t.now) c.args.database) c.args.maker.now served.new.maker fed left before after served.result (state g.S.Store from) (state g.S.Store k)) (sym c.close.ensures) served.ensures,
     )
 
 pub returns-in-Err : goal.returns-in-Err

@@ -1,5 +1,4 @@
 use Rattle.bson_model.specs.View.{content}
-use Rattle.std.proofs.lemmas.Result.{err_from_is_err_and}
 use Rattle.fallowtime_commands.specs.Changing.{Replaces}
 use Rattle.fallowtime_commands.proofs.ChangeLemmas.{renewed}
 use Rattle.fallowtime_commands.proofs.changing.replacement_of_body.Goals as goal

@@ -1,8 +1,10 @@
-use Rattle.std.proofs.Common.{ap, refl, Err}
+use Rattle.std.proofs.Common.{ap, refl, subst, sym, Err}
 use Rattle.bson_store.specs.Calls.{store_state}
 use Rattle.store_model.specs.Refusal.{refusal}
+use Rattle.fallowtime_commands.specs.Printing.{IsInsertText}
 use Rattle.fallowtime_commands.specs.declared.refusal.Refusal.{Refusal}
 use Rattle.fallowtime_commands.proofs.EarlyLemmas.{leaves, stays}
+use Rattle.fallowtime_commands.proofs.OutcomeLemmas.{outcome_text}
 use Rattle.fallowtime_commands.proofs.executing.execute.Goals as goal
 
 pub returns-in-Err : goal.returns-in-Err
@@ -16,6 +18,9 @@ returns-in-Err g c =
       crash = leaves c.args.name.now s c.in-Err.kind q c.in-Err.ensures;
       stays = λ clean docs stands. tt;
     }
+
+pub print_outcome-requires-clause-text : goal.print_outcome-requires-clause-text
+print_outcome-requires-clause-text g c = outcome_text c.args.form c.as_str.result.now c.args.request.now c.perform-outcome.result (subst (IsInsertText c.args.form c.args.request.now) (sym c.as_str.ensures.value) c.in-Ok.ensures) c.perform-outcome.ensures.shape
 
 pub returns : goal.returns
 returns g c = record {

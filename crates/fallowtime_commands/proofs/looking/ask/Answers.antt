@@ -1,7 +1,9 @@
 use Rattle.std.proofs.Common.{refl}
 use Rattle.store_lookup.specs.Reads.{Reads}
 use Rattle.fallowtime_commands.specs.Performing.{Performs}
+use Rattle.fallowtime_commands.proofs.AskLemmas.{differing}
 use Rattle.fallowtime_commands.proofs.LookLemmas.{if_told}
+use Rattle.store_question.specs.Reads.{form_of}
 use Rattle.fallowtime_commands.proofs.looking.ask.Goals as goal
 
 pub returns-in-Get-clause-reads : goal.returns-in-Get-clause-reads
@@ -19,3 +21,8 @@ returns-in-Count-clause-reads g c =
 pub returns-in-Collections-clause-reads : goal.returns-in-Collections-clause-reads
 returns-in-Collections-clause-reads g c =
     if_told c.told-in-Collections.result c.names.result (λ o. Reads g.P.Pages c.args.store.now c.collections.new.self (Performs c.args.name.now c.args.request.now o)) c.told-in-Collections.ensures (rw (c.in-Collections.is, c.names.ensures.reply) c.collections.ensures.reads)
+
+pub returns-in-Distinct-clause-reads : goal.returns-in-Distinct-clause-reads
+returns-in-Distinct-clause-reads g c =
+    if_told c.told-in-Distinct.result c.values.result (λ o. Reads g.P.Pages c.args.store.now c.distinct_in_pages-outcome.new.store (Performs c.args.name.now c.args.request.now o)) c.told-in-Distinct.ensures
+    (rw (c.in-Distinct.is, c.values.ensures.reply) (λ clean docs are. differing c.args.name.now (form_of c.in-Distinct.question) c.in-Distinct.path.items c.in-Distinct.counts _ c.as_slice.ensures.value docs docs c.distinct_in_pages-outcome.result (c.distinct_in_pages-outcome.ensures.reads clean docs are)))

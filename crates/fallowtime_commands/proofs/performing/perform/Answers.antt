@@ -1,6 +1,6 @@
 use Rattle.bson_store.specs.Calls.{store_state}
 use Rattle.store_question.specs.Reads.{form_of}
-use Rattle.fallowtime_commands.proofs.AskLemmas.{counted, counted_all, found}
+use Rattle.fallowtime_commands.proofs.AskLemmas.{counted, counted_all, differs, found}
 use Rattle.fallowtime_commands.proofs.IndexLemmas.{indexed}
 use Rattle.fallowtime_commands.proofs.performing.perform.Goals as goal
 
@@ -43,6 +43,12 @@ returns-in-Change-clause-moves g c = rw c.in-Change.is c.change.ensures.moves
 pub returns-in-Change-clause-crash : goal.returns-in-Change-clause-crash
 returns-in-Change-clause-crash g c = rw c.in-Change.is c.change.ensures.crash
 
+pub returns-in-Upsert-clause-moves : goal.returns-in-Upsert-clause-moves
+returns-in-Upsert-clause-moves g c = rw c.in-Upsert.is c.upsert.ensures.moves
+
+pub returns-in-Upsert-clause-crash : goal.returns-in-Upsert-clause-crash
+returns-in-Upsert-clause-crash g c = rw c.in-Upsert.is c.upsert.ensures.crash
+
 pub returns-in-Remove-clause-moves : goal.returns-in-Remove-clause-moves
 returns-in-Remove-clause-moves g c = rw (c.in-Remove.is, c.nothing-in-Remove.ensures.reply) c.remove.ensures.moves
 
@@ -53,9 +59,19 @@ pub returns-in-Find-clause-moves : goal.returns-in-Find-clause-moves
 returns-in-Find-clause-moves g c =
     rw (c.in-Find.is, c.documents.ensures.reply) (found c.args.name.now (form_of c.in-Find.question) c.in-Find.wanted (store_state g.S.Store c.args.store.now) (store_state g.S.Store c.find_wanted.new.store) c.find_wanted.result c.find_wanted.ensures.moves)
 
+pub returns-in-FindAndChange-clause-moves : goal.returns-in-FindAndChange-clause-moves
+returns-in-FindAndChange-clause-moves g c = rw c.in-FindAndChange.is c.find_and_change.ensures.moves
+
+pub returns-in-FindAndChange-clause-crash : goal.returns-in-FindAndChange-clause-crash
+returns-in-FindAndChange-clause-crash g c = rw c.in-FindAndChange.is c.find_and_change.ensures.crash
+
 pub returns-in-Count-clause-moves : goal.returns-in-Count-clause-moves
 returns-in-Count-clause-moves g c =
     rw (c.in-Count.is, c.number.ensures.reply) (counted c.args.name.now (form_of c.in-Count.question) (store_state g.S.Store c.args.store.now) (store_state g.S.Store c.count.new.store) c.count.result c.count.ensures.moves)
+
+pub returns-in-Distinct-clause-moves : goal.returns-in-Distinct-clause-moves
+returns-in-Distinct-clause-moves g c =
+    rw (c.in-Distinct.is, c.values.ensures.reply) (differs c.args.name.now (form_of c.in-Distinct.question) c.in-Distinct.path.items c.in-Distinct.counts _ c.as_slice-in-Distinct.ensures.value (store_state g.S.Store c.args.store.now) (store_state g.S.Store c.distinct.new.store) c.distinct.result c.distinct.ensures.moves)
 
 pub returns-in-Import-clause-moves : goal.returns-in-Import-clause-moves
 returns-in-Import-clause-moves g c = rw (c.in-Import.is, c.number-in-Import.ensures.reply) (rw c.as_slice.ensures.value at c.import_bytes.ensures.moves)

@@ -1,5 +1,5 @@
 use Rattle.std.proofs.Common.{Ok, Err, refl}
-use Rattle.bson_store_cli.proofs.fallowtime.answer.Goals as goal
+use Rattle.bson_store_cli.proofs.fallowtime.answer_lines.Goals as goal
 
 pub returns-in-Ok : goal.returns-in-Ok
 returns-in-Ok g c = (Ok tt, refl, c.in-Ok.ensures.crash)
