@@ -8,7 +8,9 @@ ARGUMENTS = {"Collection": "COLL", "Document": "DOC", "Id": "ID", "Key": "KEY", 
              "Options": "", "Documents": "[INPUT]", "IndexPath": "PATH", "File": "PATH", "Folder": "DIR"}
 # The options beside --wait by the constants of the table.
 OPTIONS = {"NO_OPTION": [], "CANONICAL": ["--canonical"], "PRINTED": ["--canonical", "--bson"],
-           "FOUND": ["--sort", "--skip", "--limit", "--fields", "--without", "--canonical", "--bson"], "LINES": ["--json"], "MANY": ["--many"]}
+           "FOUND": ["--sort", "--skip", "--limit", "--fields", "--without", "--canonical", "--bson"], "LINES": ["--json"], "MANY": ["--many"],
+           "FOUND_AFTER": ["--sort", "--skip", "--limit", "--fields", "--without", "--after", "--canonical", "--bson"],
+           "MANY_OR_UPSERT": ["--many", "--upsert"], "UPSERT": ["--upsert"], "COUNTED": ["--count", "--canonical"]}
 
 # The options that the script takes for the program.
 OF_SCRIPT = {"get": ["--pretty"], "find": ["--pretty"]}
@@ -32,4 +34,6 @@ def over_a_file(*more):
 
 def words_of(options):
     """Options in brackets, as the first line of the help of a command has them: too many for that line aren't named."""
-    return f"[{' | '.join(options)}]" if not set(options) & set(VALUED) else "[--OPTION ..]"
+    if set(options) & {*VALUED, "--count"}:
+        return "[--OPTION ..]"
+    return " ".join(f"[{option}]" for option in options) if "--upsert" in options else f"[{' | '.join(options)}]"

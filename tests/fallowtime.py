@@ -57,6 +57,9 @@ COMMANDS = {
     "update": (["c", "{}", '{"$set":{"a":1}}'], ["--many"]),
     "replace-one": (["c", "{}", "{}"], []),
     "delete": (["c", "{}"], ["--many"]),
+    "find-and-update": (["c", "{}", '{"$set":{"a":1}}'], ["--canonical", "--bson", "--sort", "--skip", "--limit", "--after"]),
+    "find-and-replace": (["c", "{}", "{}"], ["--canonical", "--bson", "--sort", "--skip", "--limit", "--after"]),
+    "find-and-delete": (["c", "{}"], ["--canonical", "--bson", "--sort", "--skip", "--limit"]),
     "remove": (["c", "1"], []),
     "find": (["c"], ["--canonical", "--bson", "--sort", "--skip", "--limit"]),
     "count": (["c"], []),
@@ -252,7 +255,20 @@ for line, kind in [('replace-one rep {"_id":3} {"_id":4}', "Id document 0"), ('r
                    (["replace-one", "rep", "{}", '{"a\\u0000":1}'], "Nul document 0"), (["replace-one", "", "{}", "{}"], "BadName")]:
     refused(line, kind)
 done("find rep", *REPLACED)
-done('delete rep {} --many', "3")
+# The first that is found, by the options of find, is changed and printed, as it was or as it is; none found is no refusal.
+for line, *printed in [('find-and-update rep {"_id":2} {"$inc":{"x":1}}', REPLACED[1]), ('find-and-update rep {"_id":2} {"$inc":{"x":1}} --after', '{"_id":2,"x":3.5,"n":[2]}'),
+                       ('find-and-update rep {"_id":9} {"$inc":{"x":1}} --after',), ('find-and-update rep {} {"$inc":{"x":1}} --limit 0',), ('find-and-delete rep {"_id":9}',),
+                       ('find-and-update rep {} {"$set":{"a":7}} --sort _id:-1 --after --fields a', '{"_id":{"a":1,"b":2},"a":7}'),
+                       ('find-and-replace rep {"_id":{"$lt":9}} {"q":1} --skip 1 --without _id', '{"z":{"y":1,"x":2},"a":2}'),
+                       ('find-and-replace rep {"_id":3} {"x":1.5,"_id":3} --after', '{"x":1.5,"_id":3}'),
+                       ('find-and-delete rep {} --sort x --canonical', '{"m":{"$numberInt":"2"},"_id":{"a":{"$numberInt":"1"},"b":{"$numberInt":"2"}},"a":{"$numberInt":"7"}}'),
+                       ("find rep", '{"_id":2,"x":3.5,"n":[2]}', '{"x":1.5,"_id":3}')]:
+    done(line, *printed)
+for line, kind in [('find-and-update rep {} {"$inc":{"n":1}}', "NotANumber document 0"), ('find-and-replace rep {} {"_id":4}', "Id document 0"),
+                   (["find-and-replace", "rep", "{}", '{"a\\u0000":1}'], "Nul document 0"), (["find-and-delete", "", "{}"], "BadName")]:
+    refused(line, kind)
+done("find rep", '{"_id":2,"x":3.5,"n":[2]}', '{"x":1.5,"_id":3}')
+done('delete rep {} --many', "2")
 for line, count in [('delete ups {"n":7}', 0), ("delete none {} --many", 0), ('delete ups {"_id":{"$gt":1}}', 1), ("delete ups {} --many", 2), ("delete ups {} --many", 0)]:
     done(line, str(count))
     if count == 1:

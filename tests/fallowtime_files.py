@@ -469,7 +469,7 @@ for words in [*READS[:-1], ["find", "c", "--bson"], ["get", "c", "0", "--canonic
     holds(f"no output: {words[0]}", ended("shop.db", *words, preexec_fn=lambda: os.close(1)), WRITER)
     ours, theirs = os.pipe()
     os.close(ours)
-    holds(f"nobody reads: {words[0]}", ended("shop.db", *words, stdout=theirs), WRITER)
+    holds(f"nobody reads: {words[0]}", ended("shop.db", *words, stdout=theirs), (141, ""))
     os.close(theirs)
 holds("three inserts that were done", run("shop.db", "count", "c"), (0, b"364\n", ""))
 for line in run("shop.db", "find", "c", '{"_id":{"$type":"objectId"}}')[1].splitlines():

@@ -42,7 +42,7 @@ USAGE = "words: usage\n"
 COMMANDS = command_table.over_a_file()
 # With those that the script does by others.
 ALL = command_table.over_a_file("Script")
-OPTIONS = ["--canonical", "--bson", "--json", "--wait 5", "--sort --skip", "--skip 1"]
+OPTIONS = ["--canonical", "--bson", "--json", "--wait 5", "--sort --skip", "--skip 1", "--after"]
 # The program that is made up says how it was started, or which kinds or collections there are, or how many lines it read.
 STUB = """#!/bin/sh
 if [ "$1" = --explain ]; then echo "fallowtime: the kinds are: Busy NoFile NoFolder" >&2; exit 2; fi
@@ -197,7 +197,7 @@ if PROGRAM:
         holds(f"{words}", run(PROGRAM, *words), (0, section["fallowtime"], ""))
     listed = re.findall(r"^  ([a-z][a-z_-]*)((?: [A-Z\[\]]+)*)(?:  |$)", section["fallowtime"], re.M)
     about = dict(re.findall(r'name: "([\w-]+)".*?about: "(.*?)",$', command_table.TABLE.read_text(), re.M | re.S))
-    holds("what the commands do", [line[30:] for line in re.findall(r"^  [a-z][a-z_-]* .*$", section["fallowtime"], re.M)], [about[name] for name in ALL])
+    holds("what the commands do", [re.split("  +", line[2:])[1] for line in re.findall(r"^  [a-z][a-z_-]* .*$", section["fallowtime"], re.M)], [about[name] for name in ALL])
     holds("the commands of the help", listed, [(name, f" {places}" if places else "") for name, (places, _) in ALL.items()])
     status, out, errors = run(PROGRAM, "--explain")
     holds("--explain", (status, out, errors.split(": ")[:3]), (2, "", ["words", "usage\nfallowtime", "the kinds are"]))
@@ -211,7 +211,7 @@ for name, (places, forms) in ALL.items() if PROGRAM else []:
     holds(f"{name}: its words", out.split("\n")[0], usage)
     holds(f"{name}: its options", re.findall(r"^  (--[a-z]+)", out, re.M), [*forms, *command_table.OF_SCRIPT.get(name, []), "--wait"])
     examples = re.findall(rf"^    (?:.* )?fallowtime \S+ {name}(?: .*)?$", out, re.M)
-    holds(f"{name}: its examples", len(examples), 4 if name == "find" else 2)
+    holds(f"{name}: its examples", len(examples), {"find": 4, "update": 3}.get(name, 2))
     for example in examples:
         text = "set -- " + re.split(" [<>|] ", example)[0] + r"; printf '%s\n' " + '"$@"'
         words = subprocess.run(["bash", "-c", text], capture_output=True, text=True, cwd=HERE).stdout.split("\n")[1:-1]
@@ -303,7 +303,7 @@ for words, hint in [
     (["insert", "orders", "{}"], "FILE comes first: fallowtime FILE insert COLL DOC [--canonical] [--wait SECONDS]"),
     (["-t.db", "collections"], "a FILE that begins with - is written ./-x.db; "),
     (["--versoin"], "a FILE that begins with - is written ./-x.db; --help, --version and "),
-    (["t.db", "--wait"], "the words are fallowtime FILE [--wait SECONDS]; fallowtime help COMMAND says "),
+    (["t.db", "--wait"], "the words are fallowtime FILE [--messages] [--wait SECONDS]; fallowtime help COMMAND says "),
 ]:
     if not knows:
         break
@@ -437,7 +437,7 @@ for name, words in re.findall(r"^\.It Ic ([\w-]+)(.*)$", man, re.M):
     places = re.sub(r"Oo Ar (\w+) Oc|Op Ar (\w+)$", lambda found: f"Ar [{found[1] or found[2]}]", re.split(" O[op] Fl", words)[0])
     shown.append((name, (" ".join(re.findall(r"[A-Z\[\]]{2,}", places)), [f"-{form}" for form in forms])))
 holds("the commands of the page", shown, [(name, (places, forms + command_table.OF_SCRIPT.get(name, []))) for name, (places, forms) in ALL.items()])
-holds("the options of the page", sorted(re.findall(r"^\.It Fl -([a-z]+)", man, re.M)), ["bson", "canonical", "explain", "fields", "help", "json", "limit", "many", "pretty", "skip", "sort", "version", "wait", "without"])
+holds("the options of the page", sorted(re.findall(r"^\.It Fl -([a-z]+)", man, re.M)), ["after", "bson", "canonical", "explain", "fields", "help", "json", "limit", "many", "pretty", "skip", "sort", "upsert", "version", "wait", "without"])
 for tool, words in ("mandoc", ["-T", "lint", "-W", "warning"]), ("groff", ["-mdoc", "-Tutf8", "-z", "-ww"]):
     if shutil.which(tool):
         done = subprocess.run([tool, *words, ROOT / "man/fallowtime.1"], capture_output=True, text=True)

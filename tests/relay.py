@@ -29,6 +29,8 @@ import relaying
 from relaying import HEADER, LONG, LONGEST, MORE_TO_COME, OP_MSG, ROOT, Line, Relay, compiled, fail, hello, holds, is_gone, message, wait_for
 
 SEED = 20261128
+# How many times as long as over a server that answers with a constant a find may take.
+LONGER = 2.5
 FIND = {"find": "items", "$db": "shop"}
 # What the three drivers have to print, each in its own way of writing values.
 EXPECTED = {
@@ -221,6 +223,19 @@ def hanging(program, folder):
         one.close()
     holds("the end", relay.end(), 0)
     print(f"hanging: {taken} answers beside 10 connections that hang, the slowest in {slowest * 1000:.0f} ms")
+
+
+def names(program, folder):
+    """The name of a database: that of the file up to its first dot, as the relay says it and the program knows it."""
+    for file, name in ("shop.db", "shop"), ("two.parts.db", "two"), ("bare", "bare"), (".hidden", "test"):
+        relay = Relay(program, folder / file)
+        holds(f"the address of {file}", relay.address.rpartition("/")[2], name)
+        line = relay.line()
+        holds(f"a count in {file}", line.ask({"count": "items", "query": {}, "$db": name})["n"], 0)
+        holds(f"a count in another database than {file}", line.ask({"count": "items", "query": {}, "$db": "other"})["code"], 73)
+        line.close()
+        holds("the end", relay.end(), 0)
+    print("names: of the database that a file is")
 
 
 def limits(program, folder):
@@ -529,9 +544,10 @@ class Clients:
 
 
 def rates(program, folder):
-    """A find by _id takes at most twice as long as over a server that answers with a constant; 8 clients get more than one. On a machine
-    that has other work, and over what stands in for the program, only the processor's time can be compared, that of the client and of
-    what answers it or passes it on, and then only roughly."""
+    """A find by _id takes at most twice as long as over a server that answers with a constant, 1.9 times as measured, and the test
+    fails at a quarter more, as a machine is never quite at rest; 8 clients get more than one. On a machine that has other work, and
+    over what stands in for the program, only the processor's time can be compared, that of the client and of what answers it or
+    passes it on, and then only roughly."""
     relay = Relay(program, store(folder))
     constant = subprocess.Popen([sys.executable, "-B", ROOT / "tests/drivers/constant.py"], stdout=subprocess.PIPE, text=True)
     atexit.register(constant.kill)
@@ -561,12 +577,12 @@ def rates(program, folder):
     told = f"{told} finds a second, {times[0]:.2f} times as long by the clock, {times[1]:.2f} times by the processor"
     is_at_rest = os.getloadavg()[0] < os.cpu_count() / 2
     is_measured = is_at_rest and program != relaying.STAND_IN
-    if times[1] > 6 or is_measured and (times[0] > 2 or rate["eight"] <= rate["one"]):
+    if times[1] > 6 or is_measured and (times[0] > LONGER or rate["eight"] <= rate["one"]):
         fail(f"rates: {told}")
     print(f"rates: {told}" + ("" if is_at_rest else "; the machine has other work"))
 
 
-STEPS = [drivers, hostile, hanging, limits, room, faults, kills, lost_clients, stops, sockets, addresses, systemd, rates]
+STEPS = [drivers, hostile, hanging, names, limits, room, faults, kills, lost_clients, stops, sockets, addresses, systemd, rates]
 
 
 def main():

@@ -18,6 +18,9 @@ import tempfile
 PROGRAM = os.path.abspath(sys.argv[1])
 COUNT = int(sys.argv[2]) if len(sys.argv) > 2 else 400
 random.seed(sys.argv[3] if len(sys.argv) > 3 else 20261128)
+# Texts that are no paths, or likely to mean something else, by the option of a command line.
+ODD = {"sort": ["-a", "+a", "a,-b", "a:desc", "a:-2", "a:1:1", "a, b", " a", "a ", '{"a":-1}', '"a"', "", "a.", ".a", "a,,b", ":-1"],
+       "fields": ["-a", "+a", "a, b", '{"a":1}', "a:1", '"a"'], "without": ["-a", "a, b", "a:0"]}
 PATHS = ["a", "b", "a.b", "a.0", "a.1", "a.b.a", "a.0.b", "a.b.0", "b.a", "a.a", "a.0.0", "_id"]
 VALUES = [None, 0, 1, 2, -1, 1.5, 3, "", "x", "y", "xy", True, False, 7, 10]
 UNDEFINED = object()
@@ -147,8 +150,7 @@ def run(words, given=b""):
     return subprocess.run(["fallowtime", "s.db", *words], executable=PROGRAM, input=given, capture_output=True)
 
 
-with tempfile.TemporaryDirectory() as folder:
-    os.chdir(folder)
+def main():
     lines, wanted, asked = [], [], []
     for place in range(COUNT):
         documents = [some_document(number) for number in range(random.randint(0, 8))]
@@ -171,3 +173,14 @@ with tempfile.TemporaryDirectory() as folder:
         holds(f"words: {asked[place]}", [json.loads(line)["_id"] for line in ended.stdout.splitlines()], wanted[place])
         holds(f"words: {asked[place]}", (ended.returncode, ended.stderr), (0, b""))
     print(f"{len(some)} of them asked by words")
+    for option, texts in ODD.items():
+        for text in texts:
+            ended = run(["find", "c0", f"--{option}", text])
+            holds(f"--{option} {text!r}", (ended.returncode, ended.stdout, ended.stderr), (2, b"", b"words: options\n"))
+    print("texts of paths that are likely to mean something else")
+
+
+if __name__ == "__main__":
+    with tempfile.TemporaryDirectory() as folder:
+        os.chdir(folder)
+        main()

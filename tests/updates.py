@@ -401,10 +401,58 @@ def steps_of(update, inserts):
     return steps
 
 
+def equalities(query):
+    """The paths of a query with the values that it asks them to have, one after the other."""
+    for key, body in query.items():
+        if key == "$and":
+            for inner in body:
+                yield from equalities(inner)
+        elif not key.startswith("$"):
+            first = next(iter(body), "") if isinstance(body, dict) else ""
+            if not first.startswith("$") or first in WRAPPERS:
+                yield key, body
+            elif "$eq" in body:
+                yield key, body["$eq"]
+
+
+def fixed(query):
+    """The document of the values that a query asks its paths to have, with the `_id` in front."""
+    own, others = [], []
+    for text, tree in equalities(query):
+        if text == "_id":
+            own.append(tree)
+            if len(own) > 1:
+                refuse("Conflict", "$eq", text)
+        else:
+            path = read_path([other for other, _ in others], "$eq", text)
+            others.append((path, read_value("$eq", text, tree)))
+    document = {"_id": value_of(tree) for tree in own}
+    for path, value in others:
+        document = altered(document, path, set_to(value))
+    return document
+
+
+def read_value(name, path, tree):
+    try:
+        return value_of(tree)
+    except (ValueError, decimal.InvalidOperation):
+        return refuse("Operand", name, path)
+
+
+def put_in(query, update):
+    """What is put in if no document answers the query."""
+    document, steps = fixed(query), steps_of(update, True)
+    for step in steps:
+        document = step(document)
+    return document
+
+
 def answer(line):
     word, rest = line.split(" ", 1)
     update, document = rest.split(" | ")
     try:
+        if word == "upsert":
+            return text_of(put_in(tree_of(update), tree_of(document)))
         value = value_of(tree_of(document))
         for step in steps_of(tree_of(update), word == "insert"):
             value = step(value)
@@ -452,11 +500,26 @@ def random_operand(name):
     return random_value(2)
 
 
+def random_query(depth):
+    query = {}
+    for _ in range(random.choice([0, 1, 1, 2, 3])):
+        value = random_value(1)
+        body = random.choice([value, value, {"$eq": value}, {"$gt": 1, "$eq": value}, {"$ne": value}, {"$in": [value]}])
+        query[random.choice(["_id", random_path(), random_path()])] = body
+    if depth and random.random() < 0.3:
+        query["$and"] = [random_query(depth - 1) for _ in range(random.choice([1, 1, 2]))]
+    if random.random() < 0.1:
+        query["$or"] = [random_query(0)]
+    return query
+
+
 def random_line():
     update = {}
     for name in random.sample(sorted(FIELDS), random.choice([1, 1, 2, 3])):
         update[name] = {random_path(): random_operand(name) for _ in range(random.choice([1, 1, 2]))}
-    word = random.choice(["update", "update", "insert"])
+    word = random.choice(["update", "update", "insert", "upsert"])
+    if word == "upsert":
+        return f"upsert {json.dumps(random_query(2), separators=(',', ':'))} | {json.dumps(update, separators=(',', ':'))}"
     return f"{word} {json.dumps(update, separators=(',', ':'))} | {text_of(random_document())}"
 
 
@@ -479,4 +542,5 @@ def main(program="", count="3000", seed="68"):
     print(f"updates.py: {len(lines)} lines")
 
 
-main(*sys.argv[1:])
+if __name__ == "__main__":
+    main(*sys.argv[1:])

@@ -14,20 +14,22 @@ from ._absent import refuse, test_options
 from ._bulk import Bulk, insert_each
 from ._encode import encode_document, encode_value, test_document
 from ._errors import (IMMUTABLE, DuplicateKeyError, InsertManyError, InvalidOperation, InvalidWriteError,
-                      OperationFailure)
+                      OperationFailure, Refused)
 from ._items import ItemUpdate, item_update_of
 from ._part import FIRST, Part
-from ._projection import projection_of
 from ._query import are_operators, encode_query, ids_of, is_number, is_one_look
 from ._reading import File, Reading
-from ._requests import Document, Found, give_id, test_id, with_id
+from ._requests import Document, Found, give_id, is_stricter, test_id, with_id
 from ._results import BulkWriteResult, DeleteResult, InsertManyResult, InsertOneResult, UpdateResult
 from ._steps import step_of
 from ._update import encode_update
-from ._upsert import upserted_document, upserted_id
+from ._upsert import equalities, upserted_id
 from ._values import ObjectId
+from ._wanted import Wanted, wanted_of
 
 Hint = Any
+# Options of the program's changes.
+MANY, UPSERT, UPSERT_OF_MANY = '{"many":true}', '{"upsert":true}', '{"many":true,"upsert":true}'
 
 
 class Changing(Reading):
@@ -128,17 +130,20 @@ class Changing(Reading):
     def _replacement(self, method: str, filter: Document, replacement: Document, upsert: bool, hint: Hint,
                      options: Document, sort: Any) -> Callable[[], UpdateResult]:
         self._test_change(method, filter, hint, options)
-        _test_replacement(replacement)
-        part = Part(sort)
-        if upsert:
-            _id_to_put_in(filter, replacement)
+        text, query, part = _replacement_text(replacement), encode_query(filter), Part(sort)
+        own = _id_to_put_in(filter, replacement) if upsert else None
 
         def step() -> UpdateResult:
             with self._session.lock:
+                # For an `_id`, which is found at once here, the program looks at each document, and it takes no sort.
+                if not sort and not is_one_look(filter):
+                    try:
+                        return self._replace_first(query, text, own, upsert)
+                    except Refused as refused:
+                        if not is_stricter(refused):
+                            raise
                 found = self._seek(filter, part, even_reserved=True)
-                if found is None:
-                    return self._put_in(filter, replacement) if upsert else UpdateResult(0, 0)
-                return self._replace(found, replacement)
+                return self._replace_or_put_in(found, replacement, own, upsert)
 
         return step
 
@@ -149,8 +154,8 @@ class Changing(Reading):
         bit. Items of arrays are changed by `$set` and `$unset` at paths such as ``lines.$[i].count``, with
         ``array_filters=[{"i.article": "tea"}]``.
 
-        With `upsert` a document is put in if none is selected: with the values that the query asks to be equal, and
-        what the operators make of that, as far as nothing has to be calculated.
+        With `upsert` a document is put in if none is selected, in the same step: what the operators make, with
+        `$setOnInsert`, of the values that the query asks to be equal.
         """
         return self._change("update_one", filter, update, upsert, hint, options, sort=sort,
                             array_filters=array_filters)()
@@ -170,19 +175,19 @@ class Changing(Reading):
         items = self._item_update(update, array_filters, upsert)
         if items is not None:
             return self._change_of_items(self._selection(filter), part if is_many else part.first(), items)
-        document = upserted_document(filter, update) if upsert else None
-        many = ['{"many":true}'] if is_many else []
-        if document is None and not sort:
-            return lambda: self._update(query, text, *many)
+        own = _id_asked_for(filter) if upsert else None
 
-        def step() -> UpdateResult:
+        def change() -> UpdateResult:
+            if upsert:
+                return self._upsert(own, query, text, UPSERT_OF_MANY if is_many else UPSERT)
+            return self._update(query, text, *([MANY] if is_many else []))
+
+        def change_sorted() -> UpdateResult:
             with self._session.lock:
-                if sort:
-                    return self._update_found(self._seek(filter, part), filter, text, sort, document)
-                result = self._update(query, text, *many)
-                return result if result.matched_count or document is None else self._put_in(filter, document)
+                found = self._seek(filter, part)
+                return change() if found is None else self._update(self._query_of(found), text)
 
-        return step
+        return change_sorted if sort else change
 
     def _change_of_items(self, select: Callable[[Part], List[Any]], part: Part,
                          items: ItemUpdate) -> Callable[[], UpdateResult]:
@@ -191,6 +196,9 @@ class Changing(Reading):
                 return self._change_items(select(part), items)
 
         return step
+
+    def _change_of_found(self, items: ItemUpdate) -> Callable[[Found], UpdateResult]:
+        return lambda found: self._change_items([] if found is None else [found[1]], items)
 
     # ---- removing
 
@@ -208,7 +216,7 @@ class Changing(Reading):
         if is_one_look(filter) and not is_many:
             ids = list(ids_of(filter["_id"]))
             return lambda: self._remove(ids)
-        query, many = encode_query(filter), ['{"many":true}'] if is_many else []
+        query, many = encode_query(filter), [MANY] if is_many else []
         return lambda: DeleteResult(int(self._ask("delete", query, *many)["count"]))
 
     def _remove(self, ids: List[str]) -> DeleteResult:
@@ -230,14 +238,15 @@ class Changing(Reading):
                             **options: Any) -> Optional[Dict[str, Any]]:
         """Removes the first document that a query selects, and returns it, or None."""
         self._test_change("find_one_and_delete", filter, hint, options)
-        project, part = projection_of(projection), Part(sort)
-        encode_query(filter)
+        wanted, query = wanted_of(projection, sort), encode_query(filter)
+        if not is_one_look(filter):
+            return self._find_and("find-and-delete", [query], wanted)
         with self._session.lock:
-            found = self._seek(filter, part)
+            found = self._seek(filter)
             if found is None:
                 return None
             self._ask("remove", found[0])
-        return project(self._decoder.document(found[1]))
+        return wanted.project(self._decoder.document(found[1]))
 
     def find_one_and_replace(self, filter: Document, replacement: Document, projection: Any = None, sort: Any = None,
                              upsert: bool = False, return_document: bool = False, hint: Hint = None,
@@ -245,16 +254,22 @@ class Changing(Reading):
         """Puts another document in the place of the first one that a query selects, and returns that one, or the other
         one with `ReturnDocument.AFTER`. None if no document is selected, or was there before an `upsert`."""
         self._test_change("find_one_and_replace", filter, hint, options)
-        _test_replacement(replacement)
-        if upsert:
-            _id_to_put_in(filter, replacement)
+        text, query = _replacement_text(replacement), encode_query(filter)
+        wanted = wanted_of(projection, sort, return_document)
+        own = _id_to_put_in(filter, replacement) if upsert else None
 
-        def change(found: Found) -> UpdateResult:
-            if found is None:
-                return self._put_in(filter, replacement) if upsert else UpdateResult(0, 0)
-            return self._replace(found, replacement)
+        def put_in() -> UpdateResult:
+            return self._replace_or_put_in(None, replacement, own, upsert)
 
-        return self._find_and_change(filter, projection, sort, return_document, change)
+        with self._session.lock:
+            if not is_one_look(filter):
+                try:
+                    return self._find_and("find-and-replace", [query, text], wanted, put_in if upsert else None)
+                except Refused as refused:
+                    if not is_stricter(refused):
+                        raise
+            return self._seek_and_change(
+                filter, wanted, lambda found: self._replace_or_put_in(found, replacement, own, upsert))
 
     def find_one_and_update(self, filter: Document, update: Document, projection: Any = None, sort: Any = None,
                             upsert: bool = False, return_document: bool = False, array_filters: Any = None,
@@ -262,29 +277,47 @@ class Changing(Reading):
         """Changes the first document that a query selects, and returns it as it was, or as it is with
         `ReturnDocument.AFTER`. None if no document is selected, or was there before an `upsert`."""
         self._test_change("find_one_and_update", filter, hint, options)
-        text = encode_update("find_one_and_update", update)
-        items = self._item_update(update, array_filters, upsert)
-        document = upserted_document(filter, update) if upsert and encode_query(filter) else None
+        text, query = encode_update("find_one_and_update", update), encode_query(filter)
+        items, wanted = self._item_update(update, array_filters, upsert), wanted_of(projection, sort, return_document)
+        if items is not None:
+            return self._seek_and_change(filter, wanted, self._change_of_found(items))
+        own = _id_asked_for(filter) if upsert else None
 
-        def change(found: Found) -> UpdateResult:
-            if items is not None:
-                return self._change_items([] if found is None else [found[1]], items)
-            return self._update_found(found, filter, text, sort, document)
+        def put_in() -> UpdateResult:
+            return self._upsert(own, query, text, UPSERT)
 
-        return self._find_and_change(filter, projection, sort, return_document, change)
+        return self._find_and("find-and-update", [query, text], wanted, put_in if upsert else None)
 
-    def _find_and_change(self, filter: Document, projection: Any, sort: Any, is_after: bool,
-                         change: Callable[[Found], UpdateResult]) -> Optional[Dict[str, Any]]:
-        if not isinstance(is_after, bool):
-            raise ValueError(f"return_document is ReturnDocument.BEFORE or AFTER, and not {is_after!r}")
-        project, part = projection_of(projection), Part(sort)
+    def _find_and(self, command: str, places: List[str], wanted: Wanted,
+                  put_in: Optional[Callable[[], UpdateResult]] = None) -> Optional[Dict[str, Any]]:
+        """What a command returns that finds a document and changes it, both in one request. If it finds none, one is
+        put in by a second request, with no other one in between."""
+        options = wanted.text()
         with self._session.lock:
-            found = self._seek(filter, part)
+            tree = self._ask_update(command, *places, *([options] if options else []))["document"]
+            if tree is not None:
+                return self._decoder.document(tree)
+            if put_in is None:
+                return None
+            own = encode_value(put_in().upserted_id)
+            return self._document_of(own, wanted) if wanted.is_after else None
+
+    def _seek_and_change(self, filter: Document, wanted: Wanted,
+                         change: Callable[[Found], UpdateResult]) -> Optional[Dict[str, Any]]:
+        """The same by several requests: by an `_id` alone, as that is found at once, and of what the program can't
+        change in one."""
+        with self._session.lock:
+            found = self._seek(filter, wanted.part)
             result = change(found)
-            if is_after and (found is not None or result.did_upsert):
-                own = encode_value(result.upserted_id) if found is None else found[0]
-                return project(self._decoder.document(self._got(own)[0]))
-        return None if is_after or found is None else project(self._decoder.document(found[1]))
+            if found is not None and not wanted.is_after:
+                return wanted.project(self._decoder.document(found[1]))
+            if not wanted.is_after or found is None and not result.did_upsert:
+                return None
+            return self._document_of(encode_value(result.upserted_id) if found is None else found[0], wanted)
+
+    def _document_of(self, own: str, wanted: Wanted) -> Dict[str, Any]:
+        """What is wanted of the document with this `_id`."""
+        return wanted.project(self._decoder.document(self._got(own)[0]))
 
     # ---- parts
 
@@ -294,13 +327,31 @@ class Changing(Reading):
         test_document(filter)
         self._test_hint(hint)
 
-    def _update_found(self, found: Found, filter: Document, text: str, sort: Any,
-                      document: Optional[Document]) -> UpdateResult:
-        """Changes the document that was found, or puts one in. If it can't be, the program says so of the update."""
+    def _update(self, query: str, update: str, *options: str) -> UpdateResult:
+        return self._result(self._ask_update("update", query, update, *options))
+
+    def _upsert(self, own: Any, query: str, update: str, options: str) -> UpdateResult:
+        """Updates, or puts a document in, with this `_id` if the query asks for one."""
+        try:
+            return self._update(query, update, options)
+        except DuplicateKeyError as error:
+            raise error._of_id(self.full_name, own) from None
+
+    def _replace_first(self, query: str, text: str, own: Any, upsert: bool) -> UpdateResult:
+        """Replaces the first document, or puts one in, which is the one with this `_id`."""
+        try:
+            return self._result(self._ask("replace-one", query, text, *([UPSERT] if upsert else [])))
+        except DuplicateKeyError as error:
+            raise error._of_id(self.full_name, own) from None
+
+    def _replace_or_put_in(self, found: Found, replacement: Document, own: Any, upsert: bool) -> UpdateResult:
+        """Replaces the document that was found, or puts one in with this `_id`."""
         if found is not None:
-            return self._update(self._query_of(found, filter, sort), text)
-        result = self._update(encode_query(filter), text)
-        return result if document is None else self._put_in(filter, document)
+            return self._replace(found, replacement)
+        if not upsert:
+            return UpdateResult(0, 0)
+        self._insert(self._text_with_id(replacement, encode_value(own)), own)
+        return UpdateResult(0, 0, own, did_upsert=True)
 
     def _item_update(self, update: Document, array_filters: Any, upsert: bool) -> Optional[ItemUpdate]:
         items = item_update_of(update, array_filters, self._decoder)
@@ -316,11 +367,8 @@ class Changing(Reading):
                 self._ask("replace", text)
         return UpdateResult(len(texts), sum(text is not None for text in texts))
 
-    def _query_of(self, found: Tuple[str, Any], filter: Document, sort: Any) -> str:
-        """A query whose first document is one that was found by another query: that itself, unless it was sorted, or
-        is one for a number as `_id`, which documents have in several kinds."""
-        if not sort and not (is_one_look(filter) and is_number(filter["_id"])):
-            return encode_query(filter)
+    def _query_of(self, found: Tuple[str, Any]) -> str:
+        """A query whose first document is one that was found in another order, by its `_id`."""
         query = '{"_id":{"$eq":%s}}' % found[0]
         own = self._decoder.value(found[1]["_id"])
         is_alone = is_one_look({"_id": own}) and not is_number(own)
@@ -339,12 +387,6 @@ class Changing(Reading):
         self._ask("replace", text)
         return UpdateResult(1, 1)
 
-    def _put_in(self, query: Document, document: Document) -> UpdateResult:
-        """Puts a document in that no query selected, with the `_id` of one of both."""
-        own = _id_to_put_in(query, document)
-        self._insert(self._text_with_id(document, encode_value(own)), own)
-        return UpdateResult(0, 0, own, did_upsert=True)
-
 
 def _written(documents: Sequence[Document]) -> List[Tuple[str, Any]]:
     """The texts of documents with their `_id`s, which the documents get as well. One that is in the list twice is a
@@ -359,16 +401,26 @@ def _written(documents: Sequence[Document]) -> List[Tuple[str, Any]]:
     return written
 
 
-def _test_replacement(replacement: Document) -> None:
+def _replacement_text(replacement: Document) -> str:
     test_document(replacement)
     if are_operators(replacement):
         raise ValueError("a replacement is a document, and has no operators")
-    encode_document(replacement)
+    return encode_document(replacement)
+
+
+def _id_asked_for(query: Document) -> Any:
+    """The `_id` that a query asks for, or None, as a document is put in. NotImplementedError if the program makes of
+    the query what MongoDB doesn't."""
+    for _ in equalities(query):
+        pass
+    asked = list(upserted_id(query))
+    for own in asked:
+        test_id(own)
+    return asked[0] if asked else None
 
 
 def _id_to_put_in(query: Document, document: Document) -> Any:
     """The `_id` of a document that is put in as no query selected one."""
-    encode_query(query)
     asked = list(upserted_id(query))
     own = document["_id"] if "_id" in document else asked[0] if asked else ObjectId()
     if any(encode_value(own) not in ids_of(value) for value in asked):

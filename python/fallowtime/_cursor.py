@@ -5,11 +5,10 @@ import json
 from typing import TYPE_CHECKING, Any, Callable, Dict, Iterator, List, Optional, Union, overload
 
 from ._absent import OF_CURSOR, WithAbsent
-from ._distinct import distinct_values
 from ._errors import InvalidOperation
 from ._explain import plan_of
 from ._part import Part, keys_of
-from ._projection import WHOLE_DOCUMENTS, Projection
+from ._projection import Projection
 
 if TYPE_CHECKING:
     from ._indexing import Indexing
@@ -166,8 +165,7 @@ class Cursor(CommandCursor):
 
     def distinct(self, key: str) -> List[Any]:
         """The different values at a path of all documents of the query, whatever the part."""
-        whole = Cursor(self._collection, self._select, WHOLE_DOCUMENTS, Part())
-        return distinct_values(whole, key)
+        return self._collection._distinct(key, self._select.query)
 
     def explain(self) -> Dict[str, Any]:
         """How the documents are found, as MongoDB says it: ``["queryPlanner"]["winningPlan"]["stage"]`` is `IXSCAN` by

@@ -30,12 +30,13 @@ class Part:
         options: Dict[str, Any] = {"sort": self.keys, "skip": self.skip, "limit": self.limit, "fields": self.fields}
         return Part(**{**options, **changed})
 
-    def text(self) -> str:
-        """It as the program reads it: `{"sort":{"a":1},"fields":{"b":0},"skip":1,"limit":1}`; empty if all documents
-        are wanted as they came."""
+    def text(self, other: str = "") -> str:
+        """It as the program reads it: `{"sort":{"a":1},"fields":{"b":0},"skip":1,"limit":1}`, with another option if
+        there is one; empty if all documents are wanted as they came."""
         named = (("sort", self.keys), ("fields", self.fields))
         parts = [f'"{name}":{{{_paths_text(paths)}}}' for name, paths in named if paths]
         parts.extend(f'"{name}":{number}' for name, number in (("skip", self.skip), ("limit", self.limit)) if number)
+        parts.extend([other] if other else [])
         return "{%s}" % ",".join(parts) if parts else ""
 
     def of(self, trees: List[Tree]) -> List[Tree]:

@@ -4,6 +4,7 @@ from __future__ import annotations
 import base64
 import contextlib
 import json
+import re
 from typing import Any, Callable, Dict, List, Optional
 
 from ._absent import refuse
@@ -12,6 +13,8 @@ from ._program import run
 
 # What Linux takes of a word, in bytes.
 LONGEST_WORD = (128 << 10) - 1
+# In a path of --sort and --fields: a comma, which parts them, and what a command line refuses as no plain path.
+NOT_PLAIN = re.compile(r'[, ":{}]|^[-+]|(^|\.)(\.|$)')
 # The words of a command, behind those of the file and of the command itself.
 Words = List[str]
 
@@ -79,13 +82,17 @@ def _words_of_find(name: str, query: str = "{}", part: str = "{}") -> Words:
     options = json.loads(part)
     paths = {option: options.pop(option, {}) for option in ("sort", "fields")}
     for option, named in paths.items():
-        if any("," in path for path in named):
-            refuse(f"a path with a comma in {option} of a store that is only read", "it is a word of a command")
+        for path in filter(NOT_PLAIN.search, named):
+            refuse(f"the path {path!r} in {option} of a store that is only read", "it is a word of a command")
     options["sort"] = ",".join(f"{path}:{way}" for path, way in paths["sort"].items())
     options["fields"] = ",".join(path for path, is_wanted in paths["fields"].items() if is_wanted)
     options["without"] = ",".join(path for path, is_wanted in paths["fields"].items() if not is_wanted)
     words = [word for option, value in options.items() if value != "" for word in (f"--{option}", str(value))]
     return [*_named(name, query), *words, "--canonical"]
+
+
+def _words_of_distinct(name: str, path: str, query: str) -> Words:
+    return [*_named(name, json.loads(path), query), "--canonical"]
 
 
 def _documents(output: bytes) -> Dict[str, Any]:
@@ -94,6 +101,10 @@ def _documents(output: bytes) -> Dict[str, Any]:
 
 def _document(output: bytes) -> Dict[str, Any]:
     return {"document": json.loads(output)}
+
+
+def _values(output: bytes) -> Dict[str, Any]:
+    return {"values": [json.loads(line) for line in output.split(b"\n") if line]}
 
 
 def _count(output: bytes) -> Dict[str, Any]:
@@ -115,6 +126,7 @@ _COMMANDS: Dict[str, "tuple[Callable[..., Words], Callable[[bytes], Dict[str, An
     "get": (_words_of_get, _document),
     "find": (_words_of_find, _documents),
     "count": (_named, _count),
+    "distinct": (_words_of_distinct, _values),
     "export": (_named, _bytes),
     "collections": (lambda: [], _names),
 }

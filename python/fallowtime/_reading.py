@@ -9,7 +9,6 @@ from typing import IO, Any, Dict, List, Optional, Union
 
 from ._absent import test_options
 from ._cursor import Cursor
-from ._distinct import distinct_values
 from ._indexing import Indexing
 from ._part import WHOLE, Part
 from ._projection import projection_of
@@ -64,12 +63,10 @@ class Reading(Indexing):
         return int(self._ask("count")["count"])
 
     def distinct(self, key: str, filter: Optional[Document] = None, **options: Any) -> List[Any]:
-        """The different values at a path of the documents that a query selects, each once, as they come first. An array
-        at its end counts as its items."""
+        """The different values at a path of the documents that a query selects, each once, in the order of values. An
+        array at its end counts as its items."""
         test_options("distinct", options)
-        if not isinstance(key, str):
-            raise TypeError(f"a path is a text, and not {key!r}")
-        return distinct_values(self.find(filter), key)
+        return self._distinct(key, encode_query({} if filter is None else filter))
 
     def export(self, file: File) -> int:
         """Writes all documents as BSON, one after the other, to a file that is named, or is open for bytes. Returns

@@ -6,8 +6,10 @@ from collections.abc import Mapping, MutableMapping
 from typing import TYPE_CHECKING, Any, Callable, List, Optional, Tuple, Union
 
 from ._decode import Decoder, Tree
+from ._distinct import distinct_values, may_name_place
 from ._encode import encode_document, encode_text, encode_value, test_document
-from ._errors import CONFLICT, DOLLAR_KEY, NOT_PARSED, DuplicateKeyError, InvalidWriteError, Refused, WriteError
+from ._errors import (CONFLICT, DOLLAR_KEY, NOT_PARSED, TWO_VALUES, DuplicateKeyError, InvalidWriteError, Refused,
+                      WriteError)
 from ._part import WHOLE, Part
 from ._query import encode_query, ids_of, is_number, is_one_look
 from ._reader import Reader
@@ -91,6 +93,16 @@ class Requests:
         places = [query, text] if text else [query] if query != "{}" else []
         return list(self._ask("find", *places)["documents"])
 
+    def _distinct(self, path: str, query: str) -> List[Any]:
+        """The different values at a path, in the order of values. MongoDB promises none: it has this one by an index on
+        the path, and else that in which it meets them."""
+        if not isinstance(path, str):
+            raise TypeError(f"a path is a text, and not {path!r}")
+        if may_name_place(path):
+            # Here MongoDB's rule is another one than the program's.
+            return distinct_values(map(self._decoder.document, self._ask_part(query, WHOLE)), path)
+        return [self._decoder.value(tree) for tree in self._ask("distinct", encode_text(path), query)["values"]]
+
     def _seek(self, query: Document, part: Part = WHOLE, even_reserved: bool = False) -> Found:
         """The first document that a query selects. With `even_reserved` the tree is None of a document that has no
         Extended JSON, and is asked for by its `_id`."""
@@ -125,16 +137,29 @@ class Requests:
         value = self._decoder.value(json.loads(own))
         return encode_document({**document, "_id": value} if "_id" in document else {"_id": value, **document})
 
-    def _update(self, query: str, update: str, *options: str) -> UpdateResult:
-        """How many documents an update found and changed. ValueError if it isn't one that the program takes."""
+    def _ask_update(self, command: str, *places: str) -> Any:
+        """The answer to a command that has an update. ValueError if it isn't one that the program takes."""
         try:
-            answer = self._ask("update", query, update, *options)
+            return self._ask(command, *places)
         except Refused as refused:
             if refused.kind == "Usage" and refused.at is not None and refused.at.startswith("update "):
                 code = CONFLICT if refused.at.endswith(CONFLICTING) else NOT_PARSED
                 raise InvalidWriteError(refused.at, code) from None
+            if refused.kind == "Usage" and refused.at is not None and refused.at.endswith(CONFLICTING):
+                raise InvalidWriteError(refused.at, TWO_VALUES) from None
             raise
-        return UpdateResult(answer["matched"], answer["changed"])
+
+    def _result(self, answer: Any) -> UpdateResult:
+        """How many documents a change found and changed, or the `_id` of one that it put in."""
+        if "upserted" not in answer:
+            return UpdateResult(answer["matched"], answer["changed"])
+        return UpdateResult(0, 0, self._decoder.value(answer["upserted"]), did_upsert=True)
+
+
+def is_stricter(refused: Refused) -> bool:
+    """Whether a replacement was refused by a rule of the program that MongoDB hasn't: an `_id` has the kind of its
+    number, and what a query asks to be equal can be set beside each other."""
+    return refused.kind == "Id" or refused.at is not None and refused.at.endswith(CONFLICTING)
 
 
 def with_id(document: Document) -> Tuple[str, Any]:

@@ -1,43 +1,18 @@
-"""Documents that are put in as a query selects none: what the query asks to be equal, and what an update makes of that.
+"""What a query asks to be equal, of which a document is made that is put in as none is selected.
 
-Only what needs no calculation is made here: where nothing is yet, the result of an operator is what it takes. All else
-is a NotImplementedError before anything is sent."""
+The program makes it, of what MongoDB's manual says. Where MongoDB takes another condition for an equality, this is a
+NotImplementedError before anything is sent."""
 from __future__ import annotations
 
 from collections.abc import Mapping
-from typing import Any, Dict, Iterator, Tuple
+from typing import Any, Iterator, Tuple
 
 from ._absent import refuse
 from ._query import are_operators, is_regex
 
-Document = Dict[str, Any]
-
-
-class _Made(dict):  # type: ignore[type-arg]
-    """A document that is there as a path leads through it, and none that a query or an update has."""
-
-
-# Operators that make nothing where nothing is.
-_IDLE = frozenset(["$unset", "$pull", "$pullAll", "$pop", "$rename"])
 # Operators of queries that ask for no one value, so that a document that is put in has none of them.
 _VAGUE = frozenset(["$ne", "$gt", "$gte", "$lt", "$lte", "$nin", "$size", "$exists", "$type", "$mod", "$not",
                     "$elemMatch"])
-
-
-def upserted_document(query: "Mapping[str, Any]", update: "Mapping[str, Mapping[str, Any]]") -> Document:
-    """The document that an update puts in. It has no `_id` if the query asks for none."""
-    document: Document = {}
-    for path, value in sorted(equalities(query), key=lambda entry: entry[0] != "_id"):
-        _put(document, path, value, is_new=True)
-    for operator, members in update.items():
-        for path, value in members.items():
-            if operator in ("$set", "$setOnInsert"):
-                _put(document, path, value)
-            elif operator not in _IDLE:
-                _put(document, path, _made_of_nothing(operator, value), is_new=True)
-            elif _has_begun(document, path):
-                refuse(f"{operator} of {path} with upsert", "the query asks for a value there")
-    return document
 
 
 def upserted_id(query: "Mapping[str, Any]") -> Iterator[Any]:
@@ -74,45 +49,3 @@ def _equalities_below(path: str, operators: "Mapping[str, Any]") -> Iterator[Tup
             continue
         elif operator not in _VAGUE:
             refuse(f"{operator} under {path} with upsert", "a query for a value asks for it by $eq")
-
-
-def _made_of_nothing(operator: str, value: Any) -> Any:
-    """What an operator makes where nothing is."""
-    if operator in ("$inc", "$min", "$max"):
-        return value
-    if operator not in ("$push", "$addToSet"):
-        refuse(f"{operator} with upsert", "what it makes of nothing is calculated by the program alone")
-    if not are_operators(value):
-        return [value]
-    items = list(value.get("$each", ()))
-    if not {"$each"} <= value.keys() <= {"$each", "$position", "$slice"} or operator == "$addToSet" and len(items) > 1:
-        refuse(f"{', '.join(value)} of {operator} with upsert", "what it makes of nothing is calculated by the program")
-    size = value.get("$slice", len(items))
-    return items[:int(size)] if size >= 0 else items[int(size):]
-
-
-def _has_begun(document: Document, path: str) -> bool:
-    """Whether something is at a path, or in its way."""
-    inner: Any = document
-    for key in path.split("."):
-        if not isinstance(inner, dict):
-            return True
-        if key not in inner:
-            return False
-        inner = inner[key]
-    return True
-
-
-def _put(document: Document, path: str, value: Any, is_new: bool = False) -> None:
-    """Puts a value at a path, with the documents on the way."""
-    *before, last = path.split(".")
-    if not all(before) or not last:
-        refuse(f"the path {path!r} with upsert", "a path has a key between its dots")
-    for key in before:
-        inner = document.setdefault(key, _Made())
-        if not isinstance(inner, _Made):
-            refuse(f"{path} with upsert", "the query asks for a value in its way")
-        document = inner
-    if last in document and (is_new or isinstance(document[last], _Made)):
-        refuse(f"{path} with upsert", "the query asks for a value there")
-    document[last] = value

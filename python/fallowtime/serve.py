@@ -64,11 +64,16 @@ def read_words(words: List[str]) -> argparse.Namespace:
     return given
 
 
+def database_of(file: str) -> str:
+    """The database that a file is, as the program names it too: the file's name up to its first dot."""
+    return pathlib.Path(file).name.partition(".")[0] or "test"
+
+
 class Service:
     """A relay, where it listens, and the signals that end it."""
 
     def __init__(self, given: argparse.Namespace) -> None:
-        self._database = pathlib.Path(given.file).stem
+        self._database = database_of(given.file)
         self._has_begun = False
         self._listeners: List[socket.socket] = []
         self._take_away: Callable[[], None] = lambda: None

@@ -30,7 +30,7 @@ class Aio(WithFolder, unittest.IsolatedAsyncioTestCase):
         self.assertEqual((await orders.replace_one({"_id": 4}, {"x": 9})).modified_count, 1)
         self.assertEqual(await orders.find_one({"x": {"$lt": 10}}), {"_id": 4, "x": 9})
         self.assertEqual((await orders.count_documents({}), await orders.estimated_document_count()), (4, 4))
-        self.assertEqual(await orders.distinct("x"), [12, 23, 34, 9])
+        self.assertEqual(await orders.distinct("x"), [9, 12, 23, 34])
         self.assertEqual(await orders.find_one_and_update({}, {"$set": {"x": 0}}, sort=[("x", 1)],
                                                           return_document=ReturnDocument.AFTER), {"_id": 4, "x": 0})
         self.assertEqual(await orders.find_one_and_replace({"_id": 4}, {"x": 5}), {"_id": 4, "x": 0})

@@ -382,6 +382,12 @@ class Changing(WithFolder):
             ({"_id": 17}, {"$push": {"a": {"$each": [1, 2, 3], "$position": 9, "$slice": 2},
                                      "b": {"$each": [1, 2, 3], "$slice": -2}, "c": {"$each": [1], "$slice": 0}}},
              {"_id": 17, "a": [1, 2], "b": [2, 3], "c": []}),
+            ({"_id": 18}, {"$mul": {"b": 2}}, {"_id": 18, "b": 0}),
+            ({"_id": 19, "b": 1}, {"$inc": {"b": 1}}, {"_id": 19, "b": 2}),
+            ({"_id": 20, "b": {"c": 1}}, {"$set": {"b.d": 1}}, {"_id": 20, "b": {"c": 1, "d": 1}}),
+            ({"_id": 21, "b.c": 1}, {"$set": {"b": 1}}, {"_id": 21, "b": 1}),
+            ({"_id": 22, "b": 1}, {"$unset": {"b": 1}}, {"_id": 22}),
+            ({"_id": 23}, {"$addToSet": {"b": {"$each": [1, 2, 1]}}}, {"_id": 23, "b": [1, 2]}),
         ]:
             with self.subTest(query=query):
                 self.assertEqual(counts(update(query, changes, upsert=True)), (0, 0, wanted["_id"]))
@@ -389,15 +395,17 @@ class Changing(WithFolder):
         own = update({"z": 99}, {"$set": {"b": 1}}, upsert=True).upserted_id
         self.assertEqual(self.orders.find_one(own), {"_id": own, "z": 99, "b": 1})
         for query, changes in [
-            ({"_id": 77}, {"$mul": {"b": 2}}), ({"_id": 77, "b": 1}, {"$inc": {"b": 1}}),
-            ({"_id": 77, "b": {"c": 1}}, {"$set": {"b.d": 1}}), ({"_id": 77, "b.c": 1}, {"$set": {"b": 1}}),
             ({"_id": 77, "b": {"$in": [1]}}, {"$set": {"c": 1}}), ({"_id": 77, "b": {"$all": [1]}}, {"$set": {"c": 1}}),
-            ({"_id": 77, "$or": [{"b": 1}]}, {"$set": {"c": 1}}), ({"_id": 77, "b": 1}, {"$unset": {"b": 1}}),
-            ({"_id": 77}, {"$addToSet": {"b": {"$each": [1, 2]}}}), ({"_id.a": 77}, {"$set": {"c": 1}}),
+            ({"_id": 77, "$or": [{"b": 1}]}, {"$set": {"c": 1}}), ({"_id.a": 77}, {"$set": {"c": 1}}),
         ]:
             with self.subTest(query=query), self.assertRaises(NotImplementedError):
                 update(query, changes, upsert=True)
         self.assertIsNone(self.orders.find_one(77))
+        self.assertRaises(fallowtime.DuplicateKeyError, update, {"_id": 8, "b": 77}, {"$set": {"c": 1}}, upsert=True)
+        with self.assertRaises(ValueError) as raised:
+            update({"b": 1, "$and": [{"b": 2}]}, {"$set": {"c": 1}}, upsert=True)
+        self.assertEqual(raised.exception.code, 54)
+        self.assert_refused("NotANumber", update, {"b": "x"}, {"$inc": {"b": 1}}, upsert=True)
 
     def test_delete_one(self):
         delete = self.orders.delete_one

@@ -282,10 +282,54 @@ class FindingAndChanging(WithOrders):
     def test_numbers_of_several_kinds(self):
         kinds = self.store.kinds
         kinds.insert_many([{"_id": Int64(5), "n": 0}, {"_id": 5, "n": 0}])
-        self.assert_fails(None, kinds.find_one_and_update, {"_id": 5}, {"$inc": {"n": 1}})
-        self.assertEqual(kinds.find_one_and_update({"_id": Int64(5)}, {"$inc": {"n": 1}}, return_document=AFTER),
-                         {"_id": 5, "n": 1})
-        self.assertEqual(kinds.find_one_and_delete({"_id": 5}), {"_id": 5, "n": 0})
+        self.assert_same(kinds.find_one_and_update({"_id": 5}, {"$inc": {"n": 1}}, return_document=AFTER),
+                         {"_id": Int64(5), "n": 1})
+        self.assert_same(kinds.find_one_and_delete({"_id": 5}), {"_id": 5, "n": 0})
+        self.assert_same(kinds.find_one_and_replace({"n": 1}, {"_id": 5, "n": 2}, return_document=AFTER),
+                         {"_id": Int64(5), "n": 2})
+        self.assertEqual(kinds.replace_one({"n": 2}, {"_id": 5.0, "n": 3}).modified_count, 1)
+        self.assertEqual(kinds.replace_one({"n": 3}, {"_id": 5.0, "n": 3}).modified_count, 0)
+        self.assert_same(list(kinds.find()), [{"_id": Int64(5), "n": 3}])
+        for call in kinds.replace_one, kinds.find_one_and_replace:
+            self.assert_fails(66, call, {"n": 3}, {"_id": 6})
+
+    def requests(self, call, *arguments, **options):
+        """What a call returns, and which commands it asks of the program."""
+        session = type(self.store._session)
+        with mock.patch.object(session, "ask", autospec=True, side_effect=session.ask) as asked:
+            return call(*arguments, **options), [one.args[1] for one in asked.call_args_list]
+
+    def test_one_request(self):
+        """What is found and changed is so in one request, except by an `_id` alone, which is found at once."""
+        orders = self.orders
+        for wanted, command, call, arguments, options in [
+            ({"_id": 3}, "find-and-update", orders.find_one_and_update,
+             ({"x": {"$gt": 11}}, {"$inc": {"x": 1}}, ["_id"], [("x", -1)]), {}),
+            ({"x": 0}, "find-and-update", orders.find_one_and_update, ({"_id": 1}, {"$set": {"x": 0}}),
+             {"projection": {"x": 1, "_id": 0}, "return_document": AFTER, "upsert": True}),
+            ({"_id": 2, "y": 1}, "find-and-replace", orders.find_one_and_replace, ({"x": 22}, {"y": 1}),
+             {"return_document": AFTER, "upsert": True}),
+            (self.documents[2]["tags"], "distinct", orders.distinct, ("tags", {"_id": 3}), {}),
+            ({"_id": 2, "y": 1}, "find-and-delete", orders.find_one_and_delete, ({"y": 1},), {}),
+            (None, "find-and-delete", orders.find_one_and_delete, ({"y": 1}, {"x": 1}, [("x", 1)]), {}),
+        ]:
+            with self.subTest(command=command, arguments=arguments):
+                self.assertEqual(self.requests(call, *arguments, **options), (wanted, [command]))
+        result, commands = self.requests(orders.replace_one, {"x": 7}, {"x": 8}, upsert=True)
+        self.assertEqual((type(result.upserted_id), commands), (ObjectId, ["replace-one"]))
+        self.assertEqual(self.requests(orders.find_one_and_delete, {"_id": 1}, ["x"]),
+                         ({"_id": 1, "x": 0}, ["get", "remove"]))
+
+    def test_replacements_that_are_put_in(self):
+        """What a query asks to be equal is nothing to a replacement, apart from the `_id`."""
+        replace = self.orders.replace_one
+        self.assertEqual(replace({"x": 7, "$and": [{"x": 8}]}, {"_id": 7, "y": 1}, upsert=True).upserted_id, 7)
+        self.assertEqual(replace({"_id": {"$eq": Int64(8)}, "x": 8}, {"_id": 8}, upsert=True).upserted_id, 8)
+        self.assertEqual(replace({"_id": {"$eq": 9}, "x.y": 8}, {"y": 1}, upsert=True).upserted_id, 9)
+        error = self.assert_fails(11000, replace, {"_id": {"$eq": 9}, "x": 8}, {"y": 1}, upsert=True)
+        self.assertEqual(error.details["keyValue"], {"_id": 9})
+        self.assert_same(list(self.orders.find({"_id": {"$gt": 3}})),
+                         [{"_id": 7, "y": 1}, {"_id": 8}, {"_id": 9, "y": 1}])
 
 
 class Asking(WithOrders):
@@ -325,13 +369,27 @@ class Asking(WithOrders):
                   -0.0, 0]
         collection.insert_many([{"v": value} for value in values] + [{}])
         self.assertEqual(repr(collection.distinct("v")),
-                         repr([1, "1", True, None, [2], "x", {"a": 1, "b": 2}, {"b": 2, "a": 1}, float("nan"), b"x",
-                               ObjectId("6" * 24), -0.0]))
+                         repr([None, float("nan"), -0.0, 1, "1", "x", {"a": 1, "b": 2}, {"b": 2, "a": 1}, [2], b"x",
+                               ObjectId("6" * 24), True]))
         self.assertEqual(self.orders.distinct("tags.b"), [1, 2, 3])
         self.assertEqual(self.orders.distinct("tags.1.b", {"_id": {"$lt": 3}}), [1, 2])
         self.assertEqual(self.orders.distinct("none"), [])
         self.assertEqual(self.orders.find({"_id": {"$gt": 1}}, {"_id": 1}).limit(1).distinct("x"), [22, 33])
+        self.assertEqual(self.orders.find({"_id": 2}).distinct("x"), [22])
+        self.assertEqual(self.store.kinds.find({"_id": "a"}).distinct("x"), [])
         self.assertRaises(TypeError, self.orders.distinct, 5)
+        self.assertRaises(TypeError, self.orders.distinct, "x", 5)
+        self.assertRaises(TypeError, self.orders.find().distinct, 5)
+
+    def test_distinct_by_places(self):
+        """Behind an array digits are a place, and no key of the documents in it."""
+        places = self.store.places
+        places.insert_many([{"a": [{"0": 5, "b": 1}, [7, 8]]}, {"a": {"0": 4, "01": 3}}, {"0": {"0": 2}}])
+        for path, wanted in [("a.0", [{"0": 5, "b": 1}, 4]), ("a.1", [7, 8]), ("a.0.0", [5]), ("a.1.0", [7]),
+                             ("0.0", [2]), ("a.01", [3]), ("a.0.b", [1]), ("a.b", [1])]:
+            with self.subTest(path=path):
+                self.assertEqual(places.distinct(path), wanted)
+                self.assertEqual(places.find().distinct(path), wanted)
 
     def test_parts(self):
         self.assertEqual(self.ids({}, None, 1, 1), [2])
@@ -391,7 +449,9 @@ class Asking(WithOrders):
         self.assertEqual(orders.find_one_and_delete({}, sort=[("x", -1)])["_id"], 2)
         self.assertEqual([found["_id"] for found in orders.find(sort={"x": 1, "_id": -1}, limit=2)], [3, 4])
         orders.insert_many([{"_id": Int64(1), "x": 50}, {"_id": "1", "x": 0}])
-        self.assert_fails(None, orders.find_one_and_update, {}, {"$set": {"x": 1}}, sort=[("x", -1)])
+        self.assert_fails(None, orders.update_one, {}, {"$set": {"x": 1}}, sort=[("x", -1)])
+        self.assert_same(orders.find_one_and_update({}, {"$set": {"x": 1}}, ["x"], [("x", -1)]),
+                         {"_id": Int64(1), "x": 50})
         self.assertEqual(orders.find_one_and_update({}, {"$set": {"x": 7}}, ["x"], [("x", 1)], return_document=AFTER),
                          {"_id": "1", "x": 7})
 

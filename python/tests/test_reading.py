@@ -13,7 +13,7 @@ from fallowtime import DeleteOne, InsertOne, ObjectId
 
 NAMES = ["plain", "with space", '"quoted', "line\nfeed", "--dashed", "é\u2028", "a.b"]
 DOCUMENTS = [{"_id": 1, "x": 2.5, "t": "line\nfeed\u2028"}, {"_id": "--canonical", "x": -0.0},
-             {"_id": "1", "x": [b"b", None]}, {"_id": ObjectId("6" * 24), "a:1": 5, "a,b": 6},
+             {"_id": "1", "x": [b"b", None]}, {"_id": ObjectId("6" * 24), "a1": 5, "a,b": 6},
              {"_id": {"d": 1}, "x": 9}]
 
 
@@ -37,7 +37,10 @@ class OnlyRead(WithFolder):
         self.assertEqual((plain.find_one("none"), plain.find_one({"x": 7})), (None, None))
         self.assertEqual(list(self.reader.none.find()), [])
         self.assertEqual([plain.count_documents(query) for query in ({}, {"x": {"$gt": 1}}, {"a,b": 6})], [5, 2, 1])
-        self.assertEqual((plain.estimated_document_count(), plain.distinct("x")), (5, [2.5, -0.0, b"b", None, 9]))
+        self.assertEqual((plain.estimated_document_count(), plain.distinct("x")), (5, [None, -0.0, 2.5, 9, b"b"]))
+        self.assertEqual((plain.distinct("t"), plain.distinct("none"), plain.distinct("x.1"), plain.distinct("a,b")),
+                         (["line\nfeed\u2028"], [], [None], [6]))
+        self.assertEqual(plain.find({"_id": "1"}).distinct("x"), [None, b"b"])
         self.assertEqual(plain.export(self.folder / "a.bson"), 5)
         self.store.plain.export(self.folder / "b.bson")
         self.assertEqual((self.folder / "a.bson").read_bytes(), (self.folder / "b.bson").read_bytes())
@@ -45,14 +48,15 @@ class OnlyRead(WithFolder):
     def test_sorts_and_parts(self):
         ids = [document["_id"] for document in DOCUMENTS]
         for part, places in [
-            ({"sort": [("x", 1)]}, [2, 3, 1, 0, 4]), ({"sort": [("a:1", -1), ("x", -1)]}, [3, 2, 4, 0, 1]),
+            ({"sort": [("x", 1)]}, [2, 3, 1, 0, 4]), ({"sort": [("a1", -1), ("x", -1)]}, [3, 2, 4, 0, 1]),
             ({"skip": 1, "limit": 2}, [1, 2]), ({"sort": "x", "skip": 3}, [0, 4]), ({"limit": 0}, [0, 1, 2, 3, 4]),
         ]:
             with self.subTest(part=part):
                 found = [document["_id"] for document in self.reader.plain.find({}, **part)]
                 self.assertEqual(found, [document["_id"] for document in self.store.plain.find({}, **part)])
                 self.assertEqual(found, [ids[place] for place in places])
-        self.assertRaises(NotImplementedError, self.reader.plain.find(sort="a,b").to_list)
+        for path in "a,b", "a:1", "-a", "a b":
+            self.assertRaises(NotImplementedError, self.reader.plain.find(sort=path).to_list)
         self.assertEqual(list(self.reader.plain.aggregate([{"$match": {"x": 9}}, {"$count": "n"}])), [{"n": 1}])
 
     def test_nothing_is_changed(self):

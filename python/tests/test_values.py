@@ -216,6 +216,12 @@ class Reserved(WithFolder):
             self.assertEqual(collection.count_documents({"_id": 1}), 1)
             self.assertEqual(collection.export(self.folder / "out.bson"), 1)
             self.assertEqual((self.folder / "out.bson").read_bytes(), body)
+            # What is found and changed in one request is changed, even if it can't be returned.
+            self.assert_refused("ReservedKey", collection.find_one_and_update, {"b": None}, {"$set": {"b": 1}},
+                                key="a.$oid")
+            self.assertEqual((collection.distinct("b"), collection.count_documents({"b": 1})), ([1], 1))
+            self.assert_refused("ReservedKey", collection.find_one_and_delete, {"_id": 1}, key="a.$oid")
+            self.assertEqual(collection.find_one_and_update({"b": 1}, {"$set": {"b": 2}}, ["b"]), {"_id": 1, "b": 1})
             self.assertEqual(repr(collection.replace_one({"_id": 1}, {"b": 1})), repr(fallowtime.UpdateResult(1, 1)))
             self.assert_same(collection.find_one(1), {"_id": 1, "b": 1})
 

@@ -330,7 +330,7 @@ def main():
     if len(sys.argv) != 3 or sys.argv[2] != "--messages":
         sys.exit("words: stand_in.py FILE --messages")
     store = Store(sys.argv[1])
-    store.database = pathlib.Path(sys.argv[1]).stem
+    store.database = pathlib.Path(sys.argv[1]).name.partition(".")[0] or "test"
     while True:
         length = exactly(4)
         if not 16 <= struct.unpack("<i", length)[0] <= LONGEST:
