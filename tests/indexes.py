@@ -33,6 +33,8 @@ LISTS = int(sys.argv[2]) if len(sys.argv) > 2 else 2500
 SEED = int(sys.argv[3]) if len(sys.argv) > 3 else 1
 # How many lists one process answers, each over collections of its own.
 BATCH = 50
+# How often a time is measured.
+RUNS = 4
 OF_INDEXES = ("index", "drop_index")
 
 IDS = [0, 1, 2, 3, 1.5, 2.0, "A", "B", None, {"x": 1}, {"$oid": "650000000000000000000002"}]
@@ -228,10 +230,14 @@ def compare():
 
 
 def seconds(requests, file):
-    """The answers, and the processor's time."""
-    began = resource.getrusage(resource.RUSAGE_CHILDREN).ru_utime
-    found = answers(requests, file)
-    return found, resource.getrusage(resource.RUSAGE_CHILDREN).ru_utime - began
+    """The answers, and the processor's time: the least of several runs, as what else is done on the machine only adds to it."""
+    least = None
+    for _ in range(RUNS):
+        began = resource.getrusage(resource.RUSAGE_CHILDREN).ru_utime
+        found = answers(requests, file)
+        took = resource.getrusage(resource.RUSAGE_CHILDREN).ru_utime - began
+        least = took if least is None else min(least, took)
+    return found, least
 
 
 # Queries about a number that an index on a.b serves, and how many documents behind the changes below answer those about 100.

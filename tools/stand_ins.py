@@ -69,8 +69,9 @@ def body_of(tokens, at):
             at += 1
 
 
-def without_bodies(text):
-    """A file of a crate with each function's body a call that never returns, and the names of the functions that keep theirs."""
+def without_bodies(text, stays=lambda place: False):
+    """A file of a crate with each function's body a call that never returns, and the names of the functions that keep theirs: what
+    has to, and each function of which `stays` says so by the place behind its name."""
     tokens = list(TOKEN.finditer(text))
     made, kept, at, names = [], 0, 0, set()
     while at < len(tokens):
@@ -80,7 +81,7 @@ def without_bodies(text):
             continue
         before = [token.group() for token in tokens[max(at - 3, 0):at]]
         found = body_of(tokens, at)
-        if found is None or "const" in before:
+        if found is None or "const" in before or stays(tokens[at + 1].end()):
             names.add(tokens[at + 1].group())
             at = found[1] if found else at + 1
             continue
@@ -90,7 +91,23 @@ def without_bodies(text):
             continue
         made += [text[kept:tokens[opening].end()], f"\n    crate::{NEVER}::never();\n    unreachable!()\n", "}"]
         kept, at = tokens[end - 1].end(), end
-    return CYCLE.sub("", "".join(made) + text[kept:]), names
+    return "".join(made) + text[kept:], names
+
+
+def without_proofs(folder, names):
+    """Removes a copied crate's files of proofs for single functions, but for those of these names; lemmas stay."""
+    for file in list((folder / "proofs").glob("**/*.antt")):
+        if len(file.relative_to(folder / "proofs").parts) > 1 and file.parent.name not in names:
+            file.unlink()
+
+
+def put_never(folder, root):
+    """Adds the call that never returns to a copied crate, whose root file is named."""
+    (folder / "src" / f"{NEVER}.rt").write_text(MODULE, encoding="utf-8")
+    file = folder / "src" / root
+    text = file.read_text(encoding="utf-8")
+    place = re.search(r"^(?!//!|#!\[|\s*$)", text, re.MULTILINE).start()
+    file.write_text(f"{text[:place]}mod {NEVER};\n{text[place:]}", encoding="utf-8")
 
 
 class StandIns:
@@ -122,16 +139,10 @@ class StandIns:
         whole_ones = set()
         for file in (short / "src").glob("**/*.rt"):
             text, names = without_bodies(file.read_text(encoding="utf-8"))
-            file.write_text(text, encoding="utf-8")
+            file.write_text(CYCLE.sub("", text), encoding="utf-8")
             whole_ones |= names
-        (short / "src" / f"{NEVER}.rt").write_text(MODULE, encoding="utf-8")
-        root = short / "src" / "lib.rt"
-        text = root.read_text(encoding="utf-8")
-        place = re.search(r"^(?!//!|#!\[|\s*$)", text, re.MULTILINE).start()
-        root.write_text(f"{text[:place]}mod {NEVER};\n{text[place:]}", encoding="utf-8")
-        for file in list((short / "proofs").glob("**/*.antt")):
-            if len(file.relative_to(short / "proofs").parts) > 1 and file.parent.name not in whole_ones:
-                file.unlink()
+        put_never(short, "lib.rt")
+        without_proofs(short, whole_ones)
 
     @functools.cache
     def is_there(self, name):
