@@ -14,6 +14,7 @@ import json
 import math
 import pathlib
 import random
+import re
 import struct
 import subprocess
 import sys
@@ -30,7 +31,8 @@ NOTHING = ("nothing", None)
 WRAPPERS = {"$oid", "$symbol", "$regularExpression", "$numberInt", "$numberLong", "$numberDouble", "$numberDecimal", "$binary", "$uuid",
             "$code", "$timestamp", "$date", "$minKey", "$maxKey", "$dbPointer", "$undefined"}
 LOGICAL = {"$and", "$or", "$nor"}
-TESTS = {"$eq", "$ne", "$gt", "$gte", "$lt", "$lte", "$in", "$nin", "$all", "$elemMatch", "$size", "$exists", "$type", "$mod", "$not"}
+TESTS = {"$eq", "$ne", "$gt", "$gte", "$lt", "$lte", "$in", "$nin", "$all", "$elemMatch", "$size", "$exists", "$type", "$mod", "$regex",
+         "$options", "$not"}
 
 
 class Refused(Exception):
@@ -323,6 +325,16 @@ def remainders(tree):
     return leaves
 
 
+def beginning(tree):
+    """What a pattern that is a fixed beginning begins with."""
+    value = value_of(tree)
+    pattern = value[1] if value[0] == "string" else value[1][0] if value[0] == "regex" and not value[1][1] else ""
+    fixed = re.fullmatch(r"\^((?:[^.^$*+?()\[\]{}|\\]|\\[!-/:-@\[-`{-~])*)", pattern, re.DOTALL)
+    if not fixed:
+        raise Refused(tree)
+    return re.sub(r"\\(.)", r"\1", fixed[1])
+
+
 def leaf(operator, tree):
     """What an operator that isn't made of others asks of one value, and whether an array at a path's end is opened for it."""
     if operator in ("$eq", "$gt", "$gte", "$lt", "$lte"):
@@ -341,6 +353,9 @@ def leaf(operator, tree):
         return True, lambda found: found[0] in kinds
     if operator == "$mod":
         return True, remainders(tree)
+    if operator == "$regex":
+        begins = beginning(tree)
+        return True, lambda found: found[0] in ("string", "symbol") and found[1].startswith(begins)
     if operator == "$elemMatch":
         return False, element_match(tree)
     raise Refused(operator)
@@ -392,6 +407,10 @@ def test(path, operator, tree):
             raise Refused(tree)
         asked = tests(path, tree)
         return lambda given: not asked(given)
+    if operator == "$options":
+        if tree != ("string", ""):
+            raise Refused(tree)
+        return lambda given: True
     return reached(*leaf(operator, tree))
 
 
@@ -405,6 +424,8 @@ def one_of_all(path, tree):
 
 
 def tests(path, tree):
+    if "$options" in dict(tree[1]) and "$regex" not in dict(tree[1]):
+        raise Refused(tree)
     asked = [test(path, operator, body) for operator, body in tree[1]]
     return lambda given: all(one(given) for one in asked)
 
@@ -451,7 +472,7 @@ SCALARS = ["0", "1", "2", "-3", "7", '{"$numberLong":"1"}', '{"$numberLong":"3"}
            '{"$numberDecimal":"NaN"}', "9007199254740993", "9007199254740993.0", "18446744073709551617", "1e-400",
            "0.1000000000000000055511151231257827021181583404541015625", '{"$numberDouble":"9007199254740992"}',
            '{"$numberDecimal":"18446744073709551617"}', '{"$numberDecimal":"0.1"}', "0.1",
-           '"x"', '"y"', '{"$symbol":"x"}', "null", '{"$undefined":true}', "true", "false", '{"$minKey":1}', '{"$maxKey":1}',
+           '"x"', '"y"', '"x.y"', '"Jürgen"', '{"$symbol":"x"}', "null", '{"$undefined":true}', "true", "false", '{"$minKey":1}', '{"$maxKey":1}',
            '{"$date":{"$numberLong":"5"}}', '{"$oid":"650000000000000000000002"}', '{"$timestamp":{"t":1,"i":2}}',
            '{"$regularExpression":{"pattern":"x","options":""}}']
 KEYS = ["a", "b", "0", "1"]
@@ -497,6 +518,13 @@ class Lines:
             return self.some('"number"', '"array"', '"object"', "2", '["null",4]', '"string"', "-1", "1.0", '"regex"', "[]")
         if operator == "$mod":
             return self.some("[2,1]", "[3,0]", "[2,-1]", "[2.5,1]", "[0,1]", "[2]", '[{"$numberLong":"-3"},{"$numberDecimal":"1.9"}]')
+        if operator == "$regex":
+            pattern = self.some("^x", "^", "^x\\\\.", "^x.", "^y", "^Jü", "^x\\\\y", "^x\\\\", "x", "", "^x\\\\.y", "^x\\\\!", "^(x)")
+            options = self.some("", "", "", "i")
+            expression = '{"$regularExpression":{"pattern":"%s","options":"%s"}}' % (pattern, options)
+            return self.some(f'"{pattern}"', f'"{pattern}"', expression, '{"$symbol":"^x"}')
+        if operator == "$options":
+            return self.some('""', '""', '"i"', "null")
         if operator == "$not":
             return self.operators(depth + 1)
         if operator == "$elemMatch":
@@ -505,6 +533,8 @@ class Lines:
 
     def operators(self, depth=0):
         names = self.random.sample(OPERATORS, self.some(1, 1, 1, 2))
+        if "$regex" in names and "$options" not in names and self.random.randrange(3) == 0:
+            names.insert(self.random.randrange(2), "$options")
         if depth > 2:
             names = [name for name in names if name not in ("$not", "$elemMatch")] or ["$gte"]
         return "{%s}" % ",".join(f'"{name}":{self.body(name, depth)}' for name in names)

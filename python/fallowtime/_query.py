@@ -13,6 +13,8 @@ from ._values import Code, Int64, ObjectId, Regex, Symbol, is_foreign
 # Classes of values that are equal to `_id`s of one way of writing, and of which most are.
 PLAIN = frozenset([int, str, float, ObjectId])
 JOINING = frozenset(["$and", "$or", "$nor"])
+# Patterns that ask for a fixed beginning: each character stands for itself, punctuation of ASCII behind a backslash.
+_BEGINNING = re.compile(r"\^(?:[^.^$*+?()\[\]{}|\\]|\\[!-/:-@\[-`{-~])*", re.DOTALL)
 
 
 def is_number(value: Any) -> bool:
@@ -97,6 +99,25 @@ def _type(value: Any) -> str:
     return _bracketed([_kind(item) for item in value]) if isinstance(value, (list, tuple)) else _kind(value)
 
 
+def _regex(value: Any) -> str:
+    """A pattern that is a fixed beginning. What `re.compile` makes of a text has the flag for Unicode, which a text of
+    BSON is in any case."""
+    pattern, others = value, False
+    if is_regex(value):
+        pattern = value.pattern
+        others = value.options.replace("u", "") != "" if isinstance(value, Regex) else bool(value.flags & ~re.UNICODE)
+    if others or not isinstance(pattern, str) or not _BEGINNING.fullmatch(pattern):
+        raise NotImplementedError(
+            f"$regex can be had for a fixed beginning without flags, as '^Ada', and not {value!r}")
+    return encode_text(pattern)
+
+
+def _options(value: Any) -> str:
+    if value != "":
+        raise NotImplementedError(f"$options can't be had in a query, as {value!r}")
+    return encode_text(value)
+
+
 def _not(value: Any) -> str:
     if is_regex(value):
         return _plain_operand(value)
@@ -120,11 +141,15 @@ _OPERATORS: Dict[str, Callable[[Any], str]] = {
     "$exists": _exists,
     "$type": _type,
     "$mod": _mod,
+    "$regex": _regex,
+    "$options": _options,
     "$not": _not,
 }
 
 
 def _operators(value: "Mapping[str, Any]") -> str:
+    if "$options" in value and "$regex" not in value:
+        raise NotImplementedError("$options can't be had in a query without $regex")
     parts = []
     for name, operand in value.items():
         write = _OPERATORS.get(name)

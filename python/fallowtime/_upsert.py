@@ -11,8 +11,8 @@ from ._absent import refuse
 from ._query import are_operators, is_regex
 
 # Operators of queries that ask for no one value, so that a document that is put in has none of them.
-_VAGUE = frozenset(["$ne", "$gt", "$gte", "$lt", "$lte", "$nin", "$size", "$exists", "$type", "$mod", "$not",
-                    "$elemMatch"])
+_VAGUE = frozenset(["$ne", "$gt", "$gte", "$lt", "$lte", "$nin", "$size", "$exists", "$type", "$mod", "$regex",
+                    "$options", "$not", "$elemMatch"])
 
 
 def upserted_id(query: "Mapping[str, Any]") -> Iterator[Any]:

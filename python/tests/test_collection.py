@@ -211,6 +211,8 @@ class Looking(WithFolder):
             ({"$nor": [{"a": {"$exists": True}}]}, [2]), ({"$and": ({"a": 1},)}, [0, 4]),
             ({"_id": {"$in": [3, 9, 99]}}, [3, 9]), ({"_id": 3, "n": 1.5}, [3]), ({"_id": 3, "n": 1}, []),
             ({"a": {"$ne": 1, "$exists": True}}, [1, 3, *range(5, 14)]),
+            ({"a": {"$regex": "^1"}}, [3]), ({"a": {"$regex": "^", "$options": ""}}, [3]), ({"a": {"$regex": "^11"}}, []),
+            ({"s.x": {"$regex": re.compile("^de")}}, [0]), ({"s.x": {"$regex": Regex(r"^d\-")}}, []),
         ]:
             with self.subTest(query=query):
                 self.assertEqual([found["_id"] for found in many.find(query)], wanted)
@@ -604,6 +606,8 @@ class Absent(WithFolder):
             with self.assertRaisesRegex(NotImplementedError, next(iter(option))):
                 getattr(collection, method)(*words, **option)
         for query, name in [({"a": {"$near": 1}}, "$near"), ({"a": {"$regex": "x"}}, "$regex"),
+                            ({"a": {"$regex": re.compile("^x", re.I)}}, "$regex"), ({"a": {"$regex": "^x."}}, "$regex"),
+                            ({"a": {"$regex": "^x", "$options": "i"}}, "$options"),
                             ({"$where": "x"}, "$where"),
                             ({"a": {"$elemMatch": {"$gt": 1, "$regex": "x"}}}, "$regex"),
                             ({"a": {"$elemMatch": {"b": re.compile("x")}}}, "regular"),

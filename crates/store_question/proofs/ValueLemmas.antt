@@ -1,5 +1,5 @@
 -- One value, and what is asked of it.
-use Rattle.std.proofs.Common.{◌≡◌, ◌↔◌, ℕ, suc, ◌+◌, ◌≤◌, List, Bool, true, false, ◌==◌, if◌then◌else◌, IsTrue, Option, Some, None, Result, Ok, Err, MatchResult, eq-eqb, refl, sym, ap, ◌∙◌, subst, arith, max}
+use Rattle.std.proofs.Common.{◌≡◌, ◌↔◌, ℕ, suc, ◌+◌, ◌≤◌, Bor, List, Bool, true, false, ◌==◌, if◌then◌else◌, IsTrue, Option, Some, None, Result, Ok, Err, MatchResult, eq-eqb, refl, sym, ap, ◌∙◌, subst, arith, max}
 use Rattle.std.specs.Prelude.{IsSomeAnd, unwrap_or}
 use Rattle.std.specs.Result.{result_ok}
 use Rattle.std.proofs.lemmas.Bool.{eqb-true}
@@ -27,7 +27,7 @@ use Rattle.store_filter.specs.Views.{Encodes, ComesBack, ComeBack, Finds, HoldsP
 use Rattle.store_filter.proofs.MemberLemmas.{pairs_back, found_back}
 use Rattle.store_filter.proofs.ViewLemmas.{shows, kind_shown, array_held}
 use Rattle.store_model.specs.Filter.{pairs, under_places}
-use Rattle.store_question.specs.Asked.{holds, lies_apart, lies_to, same_truth}
+use Rattle.store_question.specs.Asked.{holds, lies_apart, lies_to, same_truth, text_in}
 use Rattle.store_question.specs.Reads.{Found, FindsMember, HoldsItems, Shows}
 use Rattle.store_question.specs.declared.question.Comparison.{Comparison}
 
@@ -78,6 +78,16 @@ pub kind_told : (b : Bool) (raw : RawBsonRef) (o : Option Value) (k kind : Eleme
 kind_told b raw o k kind s is told =
     let e : k ≡ value_kind s.0 = is ∙ kind_shown raw s.0 s.2.encodes in
     subst (λ (x : Option Value). IsTrue b ↔ IsSomeAnd x (λ v. value_kind v ≡ kind)) (sym s.1) (λ t. sym e ∙ told.0 t, λ t. told.1 (e ∙ t))
+
+-- ---- what is no text
+
+pub no_text : (raw : RawBsonRef) (v : Value) → ((x : Bor (List ℕ)) → raw ≡ views.String x → ⊥) → ((x : Bor (List ℕ)) → raw ≡ views.Symbol x → ⊥) → SpellsRawValue (ref_value raw) v → None ≡ text_in v
+no_text (views.String x) v never nor s = absurd (never x refl)
+no_text (views.Symbol x) v never nor s = absurd (nor x refl)
+no_text (views.Array x) v never nor s = subst (λ (w : Value). None ≡ text_in w) (sym s.2) refl
+no_text (views.Document x) v never nor s = subst (λ (w : Value). None ≡ text_in w) (sym s.2) refl
+no_text (views.JavaScriptCodeWithScope x) v never nor s = subst (λ (w : Value). None ≡ text_in w) (sym s.2) refl
+no_text raw v never nor s = subst (λ (w : Value). None ≡ text_in w) (sym s) refl
 
 -- ---- the items of an array
 

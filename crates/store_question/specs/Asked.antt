@@ -1,10 +1,11 @@
 -- What a question asks of a value, or of nothing.
-use Rattle.std.specs.Prelude.{◌≡◌, ◌⊎◌, ℕ, zero, suc, ℤ, pos, int_rem, List, [], ◌∷◌, Bool, true, false, ◌==◌, if◌then◌else◌, Option, Some, None, unwrap_or, option_and_then, IsTrue, IsSomeAnd, MatchOption}
+use Rattle.std.specs.Prelude.{◌≡◌, ◌⊎◌, ℕ, zero, suc, ℤ, pos, int_rem, List, [], ◌∷◌, Bool, true, false, nat_eq, ◌==◌, if◌then◌else◌, Option, Some, None, unwrap_or, option_and_then, IsTrue, IsSomeAnd, MatchOption}
+use Rattle.std.specs.List.{starts_with}
 use Rattle.std.specs.Ordering.{is_lt, is_le, is_eq, is_ge, is_gt, int_eq}
 use Rattle.std.specs.declared.cmp.Ordering.{Ordering}
 use Rattle.std.specs.declared.cmp.Ordering.TheVariants.{Less, Greater}
 use Rattle.bson_base.specs.declared.spec.ElementType.{ElementType}
-use Rattle.bson_base.specs.Value.{null, min_key, max_key, Value, scalar, array, document, Members, no_members, member, look_up, value_kind}
+use Rattle.bson_base.specs.Value.{null, min_key, max_key, string, symbol, Value, scalar, array, document, Members, no_members, member, look_up, value_kind}
 use Rattle.bson_numbers.specs.Wholes.{part_of}
 use Rattle.bson_order.specs.Order.{rank, is_no_number, order}
 use Rattle.store_model.specs.Filter.{pairs, under_places, Path}
@@ -24,6 +25,8 @@ mutual
     has_size : ℕ → Asked
     -- its whole part, divided by the first, leaves the second
     leaves : ℤ → ℤ → Asked
+    -- it is a text that begins with these bytes
+    begins : List ℕ → Asked
     -- an item of the array answers
     has_item : Asked → Asked
     no : Asked → Asked
@@ -83,6 +86,16 @@ abbrev pub leaves_so : ℤ → ℤ → Option ℤ → Bool
 leaves_so d r (Some z) = if int_eq d (pos zero) then false else int_eq (int_rem z d) r
 leaves_so d r None = false
 
+-- the text that a value is; a symbol is one, as in the order of values
+abbrev pub text_in : Value → Option (List ℕ)
+text_in (scalar (string t)) = Some t
+text_in (scalar (symbol t)) = Some t
+text_in v = None
+
+abbrev pub begins_so : List ℕ → Option (List ℕ) → Bool
+begins_so t (Some u) = starts_with nat_eq u t
+begins_so t None = false
+
 -- ---- along a path
 
 -- whether arrays at the end of a path are opened, and what is asked of what it leads to
@@ -133,6 +146,7 @@ abbrev mutual
   Answers (lies c w) o = IsTrue (lies_to c (unwrap_or o (scalar null)) w)
   Answers (has_size n) o = HasSize n o
   Answers (leaves d r) o = IsTrue (leaves_so d r (option_and_then part_of o))
+  Answers (begins t) o = IsTrue (begins_so t (option_and_then text_in o))
   Answers (has_item q) o = HasItem (λ v. Answers q (Some v)) o
   Answers (no q) o = Answers q o → ⊥
   Answers (all_of qs) o = AnswersAll qs o

@@ -13,7 +13,7 @@ use Rattle.bson_raw.specs.Raw.{own_value, RawValue}
 use Rattle.bson_raw.specs.declared.bson_ref.RawBsonRef.{RawBsonRef}
 use Rattle.store_filter.specs.Filters.{path_of}
 use Rattle.store_filter.specs.Views.{Encodes, ComesBack, ComeBack, IsWrittenFor}
-use Rattle.store_question.specs.Asked.{Asked, at, whole, exists, is_of, lies, has_size, leaves, has_item, no, all_of, any_of, Askeds, no_asked, asked}
+use Rattle.store_question.specs.Asked.{Asked, at, whole, exists, is_of, lies, has_size, leaves, begins, has_item, no, all_of, any_of, Askeds, no_asked, asked}
 use Rattle.store_question.specs.declared.question.Question.{Question, fold-Question}
 use Rattle.store_question.specs.declared.question.Question.TheOpen.{Question-F}
 
@@ -27,6 +27,7 @@ mutual
     compare_form : Comparison → RawValue → Form
     size_form : ℕ → Form
     remainder_form : ℤ → ℤ → Form
+    begins_form : List ℕ → Form
     item_form : Form → Form
     not_form : Form → Form
     all_form : Forms → Form
@@ -49,6 +50,7 @@ form_step (Question-F.Kind k) = kind_form k
 form_step (Question-F.Compare c r) = compare_form c (own_value r)
 form_step (Question-F.Size n) = size_form n
 form_step (Question-F.Remainder d r) = remainder_form d r
+form_step (Question-F.Begins t) = begins_form t.items
 form_step (Question-F.Item q) = item_form q.value
 form_step (Question-F.Not q) = not_form q.value
 form_step (Question-F.All qs) = all_form (forms_of qs.items)
@@ -67,6 +69,7 @@ abbrev mutual
   Reads (compare_form c r) t = (w : Value) × (t ≡ lies c w) × SpellsRawValue r w
   Reads (size_form n) t = t ≡ has_size n
   Reads (remainder_form d r) t = t ≡ leaves d r
+  Reads (begins_form b) t = t ≡ begins b
   Reads (item_form q) t = (a : Asked) × (t ≡ has_item a) × Reads q a
   Reads (not_form q) t = (a : Asked) × (t ≡ no a) × Reads q a
   Reads (all_form qs) t = (ts : Askeds) × (t ≡ all_of ts) × ReadEach qs ts

@@ -10,7 +10,7 @@ ghost use Rattle.store_model.specs.Filter.{pairs, under_places};
 ghost use Rattle.store_question.specs.Asked.{Asked, Askeds, Answers, AnswersAll, AnswersAny, AnyMember, HasItem, IntoDocument, AtEnd, AtMember, AtPlace, Along, Through, Under};
 ghost use Rattle.store_question.specs.Reads.{Found, FindsMember, OfElement, OfMembers, ReadEach, Reads, Shows, form_of, forms_of};
 
-use crate::leaf::{has_kind, has_size, items_in, leaves, lies};
+use crate::leaf::{begins, has_kind, has_size, items_in, leaves, lies};
 use crate::question::Question;
 use bson_raw::{RawBsonRef, RawDocument, RawElement};
 
@@ -36,6 +36,7 @@ fn fits(value: Option<RawBsonRef<'_>>, question: &Question) -> bool
         Question::Compare(comparison, other) => lies(value, *comparison, other.as_raw_bson_ref()),
         Question::Size(size) => has_size(value, *size),
         Question::Remainder(divisor, remainder) => leaves(value, *divisor, *remainder),
+        Question::Begins(beginning) => begins(value, beginning.as_slice()),
         Question::Item(inner) => any_item(value, inner),
         Question::Not(inner) => !fits(value, inner),
         Question::All(list) => fits_all(value, list),

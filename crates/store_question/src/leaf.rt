@@ -1,13 +1,13 @@
 //! What is asked of one value.
 
-ghost use Rattle.std.specs.Prelude.{◌≡◌, ◌↔◌, ◌≤◌, IsTrue, IsSomeAnd, option_and_then, unwrap_or};
+ghost use Rattle.std.specs.Prelude.{◌≡◌, ◌↔◌, ◌≤◌, IsTrue, IsSomeAnd, option_and_then, option_map, unwrap_or};
 ghost use Rattle.bson_base.specs.Value.{Value, scalar, null, value_kind, levels};
 ghost use Rattle.bson_numbers.specs.Wholes.{part_of};
 ghost use Rattle.bson_raw.specs.Convert.{SpellsRawValue};
 ghost use Rattle.bson_raw.specs.Raw.{ref_value};
 ghost use Rattle.bson_raw.specs.View.{bytes_of};
 ghost use Rattle.std.specs.Prelude.{Option as Maybe};
-ghost use Rattle.store_question.specs.Asked.{lies_to, lies_apart, holds as holds_so, HasSize, count as count_of, leaves_so};
+ghost use Rattle.store_question.specs.Asked.{lies_to, lies_apart, holds as holds_so, HasSize, count as count_of, leaves_so, begins_so, text_in};
 ghost use Rattle.store_question.specs.Reads.{Shows, HoldsItems, OfMembers};
 
 use crate::question::Comparison;
@@ -102,6 +102,38 @@ fn leaves_by(part: Option<i64>, divisor: i64, remainder: i64) -> bool
 {
     match part {
         Some(part) => divisor != 0 && part.wrapping_rem(divisor) == remainder,
+        None => false,
+    }
+}
+
+/// Whether there is a text, or a symbol, that begins with these bytes. Takes no memory.
+pub(crate) fn begins(value: Option<RawBsonRef<'_>>, beginning: &[u8]) -> bool
+    ensures { (o : Maybe Value) → Shows value.entry o
+        → result ≡ begins_so beginning.now (option_and_then text_in o) }
+{
+    match value {
+        Some(found) => begins_by(text_of(found), beginning),
+        None => false,
+    }
+}
+
+/// The text that a value is. None of what is neither a text nor a symbol.
+fn text_of(value: RawBsonRef<'_>) -> Option<&str>
+    ensures { (v : Value) → SpellsRawValue (ref_value value.entry) v → option_map (λ t. t.now) result ≡ text_in v }
+{
+    match value {
+        RawBsonRef::String(text) => Some(text),
+        RawBsonRef::Symbol(text) => Some(text),
+        _ => None,
+    }
+}
+
+/// Whether a text begins with these bytes. False without a text.
+fn begins_by(text: Option<&str>, beginning: &[u8]) -> bool
+    ensures { result ≡ begins_so beginning.now (option_map (λ t. t.now) text.entry) }
+{
+    match text {
+        Some(text) => text.as_bytes().starts_with(beginning),
         None => false,
     }
 }

@@ -31,6 +31,8 @@ pub enum Question {
     /// It is a number whose whole part, divided by the first of these, leaves the second. No value has a remainder under
     /// a divisor of 0.
     Remainder(i64, i64),
+    /// It is a text that begins with these bytes.
+    Begins(Vec<u8>),
     /// It is an array, and one of its items answers this.
     Item(Box<Question>),
     Not(Box<Question>),

@@ -5,4 +5,5 @@ mod OnwardLemmas
 mod LoopLemmas
 mod LeafLemmas
 mod MadeLemmas
+mod PatternLemmas
 mod QueryLemmas

@@ -1,8 +1,8 @@
 -- Arrays and objects of a length, and lists that aren't empty.
-use Rattle.std.proofs.Common.{◌≡◌, ◌<◌, ◌≤◌, ℕ, Bool, true, List, [], ◌∷◌, map, length, get_or, codes, Result, Ok, Err, Vec, Global, refl, sym, ap, subst, arith}
+use Rattle.std.proofs.Common.{◌≡◌, ◌<◌, ◌≤◌, ℕ, Bool, true, false, List, [], ◌∷◌, map, length, get_or, codes, Result, Ok, Err, Vec, Global, refl, sym, ap, subst, arith}
 use Rattle.std.specs.Prelude.{if◌then◌else◌}
 use Rattle.std.specs.Str.{bytes_eq}
-use Rattle.json.specs.Json.{Json, array, object}
+use Rattle.json.specs.Json.{Json, Members, array, object}
 use Rattle.json.specs.Value.{items_view, members_view, value_view}
 use Rattle.json.specs.declared.value.Value.{Value as Tree}
 use Rattle.bson_base.specs.Answer.{◌>>=◌}
@@ -12,7 +12,7 @@ use Rattle.store_question.specs.Reads.{form_of, forms_of, ReadEach}
 use Rattle.store_question.specs.declared.question.Question.{Question}
 use Rattle.store_question_read.proofs.OnwardLemmas.{Entry, names_fails, when_true}
 use Rattle.store_question_read.specs.Outcome.{AskEach, Asks, Fails, Gives, Names}
-use Rattle.store_question_read.specs.Query.{Fault, divided, every, filled, is_array, kind_or_kinds, match_alone, matching, no_operand, of_kind, one_at_least}
+use Rattle.store_question_read.specs.Query.{Fault, divided, every, filled, has_lone_options, is_array, kind_or_kinds, match_alone, matching, no_operand, of_kind, one_at_least, together}
 use Rattle.store_question_read.specs.declared.error.QueryError.{QueryError}
 
 -- ---- lists that aren't empty
@@ -51,3 +51,11 @@ pub not_alone : (p : Path) (k : List ℕ) (ms : List Entry) (e : QueryError) →
 not_alone p k [] e n h = names_fails _ e (no_operand k) n
 not_alone p k (m ∷ []) e n h = absurd (h refl)
 not_alone p k (m ∷ o ∷ ms) e n h = names_fails _ e (no_operand k) n
+
+-- ---- options beside a pattern
+
+pub lone_refused : (js : Members) (list : Result Askeds Fault) (e : QueryError) → has_lone_options js ≡ true → Names e (no_operand (codes "$options")) → Fails e (together js list)
+lone_refused js list e h n = subst (λ x. Fails e (if x then Err (no_operand (codes "$options")) else list)) (sym h) (names_fails _ e (no_operand (codes "$options")) n)
+
+pub put_together : (js : Members) (list : Result Askeds Fault) (r : Result (Vec Question Global) QueryError) → has_lone_options js ≡ false → Gives AskEach r list → Gives AskEach r (together js list)
+put_together js list r h g = subst (λ x. Gives AskEach r (if x then Err (no_operand (codes "$options")) else list)) (sym h) g

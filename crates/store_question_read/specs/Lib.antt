@@ -1,4 +1,5 @@
 pub mod Values
 pub mod Kinds
+pub mod Patterns
 pub mod Query
 pub mod Outcome

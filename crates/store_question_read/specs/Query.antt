@@ -1,5 +1,5 @@
 -- A query in MongoDB's language: what it asks of a document, or the first fault in the order of its text.
-use Rattle.std.specs.Prelude.{ℕ, ℤ, pos, zero, negsuc, ◌==◌, ◌&&◌, not, Bool, true, false, if◌then◌else◌, List, [], ◌∷◌, codes, Option, Some, None, is_some, Result, Ok, Err}
+use Rattle.std.specs.Prelude.{ℕ, ℤ, pos, zero, negsuc, ◌==◌, ◌&&◌, ◌||◌, not, Bool, true, false, if◌then◌else◌, List, [], ◌∷◌, codes, Option, Some, None, is_some, Result, Ok, Err}
 use Rattle.std.specs.List.{slice_split}
 use Rattle.std.specs.Ordering.{int_eq}
 use Rattle.std.specs.Str.{bytes_eq}
@@ -15,17 +15,18 @@ use Rattle.bson_model.specs.JsonKeys.{is_reserved}
 use Rattle.double_text.specs.DoubleText.{double_of}
 use Rattle.bson_numbers.specs.Wholes.{part_of, whole_of}
 use Rattle.store_model.specs.Filter.{Path}
-use Rattle.store_question.specs.Asked.{Asked, at, whole, exists, is_of, lies, has_size, leaves, has_item, no, all_of, any_of, Askeds, no_asked, asked}
+use Rattle.store_question.specs.Asked.{Asked, at, whole, exists, is_of, lies, has_size, leaves, begins, has_item, no, all_of, any_of, Askeds, no_asked, asked}
 use Rattle.store_question.specs.declared.question.Comparison.{Comparison}
 use Rattle.store_question.specs.declared.question.Comparison.TheVariants.{Equal, Less, AtMost, AtLeast, Greater}
 use Rattle.store_question_read.specs.Kinds.{is_number, kind_of}
+use Rattle.store_question_read.specs.Patterns.{beginning_of}
 use Rattle.store_question_read.specs.Values.{can_be_held, decimal_in, is_expression, numeral_in, truth_of}
 use Rattle.store_question_read.specs.declared.words.Joining.{Joining}
 use Rattle.store_question_read.specs.declared.words.Joining.TheVariants.{And, Or, Nor, Comment}
 use Rattle.store_question_read.specs.declared.words.Listed.{Listed}
 use Rattle.store_question_read.specs.declared.words.Listed.TheVariants.{Queries, Values, Parts, Kinds}
 use Rattle.store_question_read.specs.declared.words.Operator.{Operator}
-use Rattle.store_question_read.specs.declared.words.Operator.TheVariants.{Eq, Ne, Lies, In, Nin, All, ElementMatch, Size, Exists, Kind, Mod, Not}
+use Rattle.store_question_read.specs.declared.words.Operator.TheVariants.{Eq, Ne, Lies, In, Nin, All, ElementMatch, Size, Exists, Kind, Mod, Regex, Options, Not}
 
 pub data Fault : Type 0 where
   -- a query is an object
@@ -51,7 +52,8 @@ operator_of k =
     first_named
     ((codes "$eq", Eq) ∷ (codes "$ne", Ne) ∷ (codes "$gt", Lies Greater) ∷ (codes "$gte", Lies AtLeast) ∷ (codes "$lt", Lies Less)
     ∷ (codes "$lte", Lies AtMost) ∷ (codes "$in", In) ∷ (codes "$nin", Nin) ∷ (codes "$all", All) ∷ (codes "$elemMatch", ElementMatch)
-    ∷ (codes "$size", Size) ∷ (codes "$exists", Exists) ∷ (codes "$type", Kind) ∷ (codes "$mod", Mod) ∷ (codes "$not", Not) ∷ [])
+    ∷ (codes "$size", Size) ∷ (codes "$exists", Exists) ∷ (codes "$type", Kind) ∷ (codes "$mod", Mod) ∷ (codes "$regex", Regex)
+    ∷ (codes "$options", Options) ∷ (codes "$not", Not) ∷ [])
     k
 
 abbrev pub begins_with_dollar : List ℕ → Bool
@@ -70,6 +72,14 @@ are_operators (json.member k j js) = names_operator k
 abbrev pub has_operators : Json → Bool
 has_operators (object js) = are_operators js
 has_operators _ = false
+
+abbrev pub has_key : List ℕ → json.Members → Bool
+has_key k json.no_members = false
+has_key k (json.member l j js) = bytes_eq l k || has_key k js
+
+-- options of no regular expression
+abbrev pub has_lone_options : json.Members → Bool
+has_lone_options js = has_key (codes "$options") js && not (has_key (codes "$regex") js)
 
 -- what is between the dots
 abbrev pub keys : List ℕ → Path
@@ -177,6 +187,18 @@ abbrev pub divided : Path → List ℕ → Json → Result Asked Fault
 divided p k (json.array (json.item i (json.item j json.no_items))) = divisor k i >>= λ d. part k j >>= λ r. Ok (at p (leaves d r))
 divided p k _ = Err (no_operand k)
 
+-- the pattern of a fixed beginning
+abbrev pub begun : Path → List ℕ → Json → Result Asked Fault
+begun p k j = value k j >>= λ v. some_or_fault k (beginning_of v) >>= λ t. Ok (at p (begins t))
+
+abbrev pub is_empty_text : Json → Bool
+is_empty_text (json.string []) = true
+is_empty_text _ = false
+
+-- the options of a pattern, which are none: they ask nothing
+abbrev pub without_options : List ℕ → Json → Result Asked Fault
+without_options k j = only_if (is_empty_text j) k (all_of no_asked)
+
 abbrev pub filled : List ℕ → Askeds → Result Askeds Fault
 filled k no_asked = Err (no_operand k)
 filled k (asked q qs) = Ok (asked q qs)
@@ -215,7 +237,13 @@ test p k (Some Size) j list operators match = of_size p k j
 test p k (Some Exists) j list operators match = existing p k j
 test p k (Some Kind) j list operators match = kind_or_kinds p k j (list Kinds)
 test p k (Some Mod) j list operators match = divided p k j
+test p k (Some Regex) j list operators match = begun p k j
+test p k (Some Options) j list operators match = without_options k j
 test p k (Some Not) j list operators match = operators >>= λ q. Ok (no q)
+
+-- options without a pattern beside them are refused in front of all else
+abbrev pub together : json.Members → Result Askeds Fault → Result Askeds Fault
+together js list = if has_lone_options js then Err (no_operand (codes "$options")) else list
 
 -- an entry of a query: its body as a list of queries, and what it asks of its path
 abbrev pub entry : List ℕ → Option Joining → Result Askeds Fault → Result Asked Fault → Result Asked Fault
@@ -257,7 +285,7 @@ abbrev mutual
 
   -- an object of operators: all of them are asked
   pub operators : Path → List ℕ → Json → Result Asked Fault
-  operators p k (object js) = if are_operators js then (tests p js >>= λ qs. Ok (all_of qs)) else Err (no_operand k)
+  operators p k (object js) = if are_operators js then (together js (tests p js) >>= λ qs. Ok (all_of qs)) else Err (no_operand k)
   operators p k json.null = Err (no_operand k)
   operators p k (json.boolean b) = Err (no_operand k)
   operators p k (json.number t) = Err (no_operand k)
@@ -272,7 +300,7 @@ abbrev mutual
   -- what an item of an array has to match: operators, or a query
   pub matching : Path → List ℕ → Json → Result Asked Fault
   matching p k (object js) =
-      if are_of_items js then (tests [] js >>= λ qs. Ok (whole p (has_item (all_of qs))))
+      if are_of_items js then (together js (tests [] js) >>= λ qs. Ok (whole p (has_item (all_of qs))))
       else (entries js >>= λ qs. Ok (whole p (has_item (holds qs))))
   matching p k json.null = Err (no_operand k)
   matching p k (json.boolean b) = Err (no_operand k)

@@ -5,11 +5,12 @@ ghost use Rattle.json.specs.Json.{array, item, no_items};
 ghost use Rattle.json.specs.Value.{items_view, value_view as data_of};
 ghost use Rattle.store_question.specs.Asked.{Askeds};
 ghost use Rattle.store_question_read.specs.Outcome.{AskEach, Asks, Gives, Same};
-ghost use Rattle.store_question_read.specs.Query.{compared as compared_at, differs as differs_at, divided as divided_at, divisor as divisor_under, equal as equal_at, exactly as exactly_at, existing as existing_at, filled as filled_under, near as near_at, of_kind as of_kind_at, of_size as of_size_at};
+ghost use Rattle.store_question_read.specs.Query.{begun as begun_at, compared as compared_at, differs as differs_at, divided as divided_at, divisor as divisor_under, equal as equal_at, exactly as exactly_at, existing as existing_at, is_empty_text as empty_text, without_options as without_options_under, filled as filled_under, near as near_at, of_kind as of_kind_at, of_size as of_size_at};
 
 use crate::error::{QueryError, operand};
 use crate::kinds::{is_number, kind_of};
 use crate::made;
+use crate::patterns::beginning_of;
 use crate::values::{exact, number, numeral_in, part, plain_value, truth_of, value};
 use json::Value;
 use std::alloc::Global;
@@ -201,6 +202,48 @@ fn divisor_of(alloc: Global, key: &str, tree: &Value<'_>) -> Result<i64, QueryEr
         Err(operand(alloc, key))
     } else {
         Ok(divisor)
+    }
+}
+
+/// The value at the path is a text that begins as a pattern says. `Operand` if that asks for more than a beginning.
+pub(crate) fn begins(
+    alloc: Global,
+    path: &[&str],
+    key: &str,
+    tree: &Value<'_>,
+) -> Result<Question, QueryError>
+    ensures { Gives Asks result (begun_at (map (λ x. x.now) path.now) key.now (data_of tree.now)) }
+{
+    let value = value(alloc, key, tree)?;
+    let beginning = beginning_of(alloc, value.as_raw_bson_ref())?;
+    match beginning {
+        Some(beginning) => Ok(made::begins(alloc, path, beginning)?),
+        None => Err(operand(alloc, key)),
+    }
+}
+
+/// Whether a tree is a text without any character.
+fn is_empty_text(tree: &Value<'_>) -> bool
+    ensures { result ≡ empty_text (data_of tree.now) }
+{
+    match tree {
+        Value::String(text) => text.is_empty(),
+        _ => false,
+    }
+}
+
+/// The options of a pattern ask nothing. `Operand` if there are some.
+pub(crate) fn without_options(
+    alloc: Global,
+    key: &str,
+    tree: &Value<'_>,
+) -> Result<Question, QueryError>
+    ensures { Gives Asks result (without_options_under key.now (data_of tree.now)) }
+{
+    if is_empty_text(tree) {
+        Ok(made::all(Vec::new(alloc)))
+    } else {
+        Err(operand(alloc, key))
     }
 }
 

@@ -4,7 +4,9 @@
 mod conditions;
 mod error;
 mod kinds;
+pub mod laws;
 mod made;
+mod patterns;
 mod query;
 mod values;
 mod words;

@@ -4,7 +4,7 @@ ghost use Rattle.std.specs.Prelude.{◌≡◌, map, None, option_map, IfOk};
 ghost use Rattle.bson_base.specs.Scalars.{decimal_bytes};
 ghost use Rattle.bson_base.specs.Value.{Value};
 ghost use Rattle.store_filter.specs.Filters.{path_of};
-ghost use Rattle.store_question.specs.Asked.{Asked, Askeds, at as Within, whole as Whole, exists, is_of, lies as Lies, has_size, leaves as Leaves, has_item, no, all_of, any_of};
+ghost use Rattle.store_question.specs.Asked.{Asked, Askeds, at as Within, whole as Whole, exists, is_of, lies as Lies, has_size, leaves as Leaves, begins as Begins, has_item, no, all_of, any_of};
 ghost use Rattle.store_question_read.specs.Outcome.{AskEach, Asks, Spells};
 ghost use Rattle.store_question_read.specs.Query.{both as Both, either as Either, every as every_of, holds as holds_in, is_a_number as number_at, keys, lies_near, others_lie, there as there_at};
 
@@ -214,6 +214,20 @@ pub(crate) fn leaves(
     ensures { IfOk result (λ q. Asks q (Within (map (λ x. x.now) path.now) (Leaves divisor rest))) }
 {
     at(alloc, path, remainder(divisor, rest))
+}
+
+/// The value itself, at no path, is a text that begins with these bytes.
+fn beginning(bytes: Vec<u8>) -> Question
+    ensures { Asks result (Begins bytes.items) }
+{
+    Question::Begins(bytes)
+}
+
+/// The value at a path is a text that begins with these bytes.
+pub(crate) fn begins(alloc: Global, path: &[&str], bytes: Vec<u8>) -> Result<Question, AllocError>
+    ensures { IfOk result (λ q. Asks q (Within (map (λ x. x.now) path.now) (Begins bytes.items))) }
+{
+    at(alloc, path, beginning(bytes))
 }
 
 /// The value at a path is an array, and one of its items answers.

@@ -4,14 +4,16 @@ ghost use Rattle.std.specs.Prelude.{◌≡◌, map, []};
 ghost use Rattle.json.specs.Json.{object};
 ghost use Rattle.json.specs.Value.{items_view, members_view, value_view as data_of};
 ghost use Rattle.store_question_read.specs.Outcome.{AskEach, Asks, Gives, IsQuery};
-ghost use Rattle.store_question_read.specs.Query.{condition as condition_at, each as each_at, entries as entries_at, entry as entry_at, items as items_at, joining_of, kind_or_kinds, listed as listed_at, match_alone as match_alone_at, matching as matching_at, one_at_least, operator_of, operators as operators_at, query, test as test_at, tests as tests_at};
+ghost use Rattle.store_question_read.specs.Query.{condition as condition_at, each as each_at, entries as entries_at, entry as entry_at, items as items_at, joining_of, kind_or_kinds, listed as listed_at, match_alone as match_alone_at, matching as matching_at, one_at_least, operator_of, operators as operators_at, query, test as test_at, tests as tests_at, together as together_at};
 
-use crate::conditions::{differs, divided, equals, exactly, filled, lies, of_kind, sized, there};
+use crate::conditions::{
+    begins, differs, divided, equals, exactly, filled, lies, of_kind, sized, there, without_options,
+};
 use crate::error::{QueryError, operand, operator};
 use crate::made;
 use crate::words::{
-    Joining, Listed, Operator, are_of_items, are_operators, begins_with_dollar, has_operators,
-    joining_named, operator_named,
+    Joining, Listed, Operator, are_of_items, are_operators, begins_with_dollar, has_lone_options,
+    has_operators, joining_named, operator_named,
 };
 use json::{MAX_DEPTH, Reader, Scratch, Value};
 use std::alloc::{AllocError, Global};
@@ -135,10 +137,28 @@ fn all_tests(
         (operators_at (map (λ x. x.now) path.now) key.now (object (members_view members.now))) }
 {
     if are_operators(members) {
-        let list = tests(alloc, path, members)?;
+        let list = together(alloc, path, members)?;
         Ok(made::all(list))
     } else {
         Err(operand(alloc, key))
+    }
+}
+
+/// One question for each operator under a path. `Operand`, which names `$options`, if it is there without `$regex`,
+/// whatever else is at fault.
+#[cycle(query)]
+fn together(
+    alloc: Global,
+    path: &[&str],
+    members: &[(&str, Value<'_>)],
+) -> Result<Vec<Question>, QueryError>
+    ensures { Gives AskEach result (together_at (members_view members.now)
+        (tests_at (map (λ x. x.now) path.now) (members_view members.now))) }
+{
+    if has_lone_options(members) {
+        Err(operand(alloc, "$options"))
+    } else {
+        tests(alloc, path, members)
     }
 }
 
@@ -172,6 +192,8 @@ fn test(alloc: Global, path: &[&str], key: &str, body: &Value<'_>) -> Result<Que
         Some(Operator::Size) => sized(alloc, path, key, body),
         Some(Operator::Exists) => there(alloc, path, key, body),
         Some(Operator::Mod) => divided(alloc, path, key, body),
+        Some(Operator::Regex) => begins(alloc, path, key, body),
+        Some(Operator::Options) => without_options(alloc, key, body),
         Some(Operator::ElementMatch) => matching(alloc, path, key, body),
         Some(Operator::Not) => {
             let inner = operators(alloc, path, key, body)?;
@@ -244,7 +266,7 @@ fn item_matching(
         (matching_at (map (λ x. x.now) path.now) key.now (object (members_view members.now))) }
 {
     if are_of_items(members) {
-        let list = tests(alloc, &[], members)?;
+        let list = together(alloc, &[], members)?;
         Ok(made::item(alloc, path, made::all(list))?)
     } else {
         let list = entries(alloc, members)?;

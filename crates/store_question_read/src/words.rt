@@ -2,7 +2,7 @@
 
 ghost use Rattle.std.specs.Prelude.{◌≡◌};
 ghost use Rattle.json.specs.Value.{members_view, value_view as data_of};
-ghost use Rattle.store_question_read.specs.Query.{are_of_items as of_items_in, are_operators as operators_in, begins_with_dollar as dollar_in, has_operators as operators_inside, joining_of, names_operator as operator_named_by, operator_of};
+ghost use Rattle.store_question_read.specs.Query.{are_of_items as of_items_in, are_operators as operators_in, begins_with_dollar as dollar_in, has_key as has_key_in, has_lone_options as lone_options_in, has_operators as operators_inside, joining_of, names_operator as operator_named_by, operator_of};
 
 use bson_model::extjson::de::is_reserved_key;
 use json::Value;
@@ -31,6 +31,9 @@ pub(crate) enum Operator {
     Exists,
     Kind,
     Mod,
+    Regex,
+    /// Those of `$regex` beside it.
+    Options,
     Not,
 }
 
@@ -78,6 +81,8 @@ pub(crate) fn operator_named(key: &str) -> Option<Operator>
         "$exists" => Some(Operator::Exists),
         "$type" => Some(Operator::Kind),
         "$mod" => Some(Operator::Mod),
+        "$regex" => Some(Operator::Regex),
+        "$options" => Some(Operator::Options),
         "$not" => Some(Operator::Not),
         _ => None,
     }
@@ -128,4 +133,23 @@ pub(crate) fn are_of_items(members: &[(&str, Value<'_>)]) -> bool
         [] => false,
         [(key, _), ..] => operator_named(*key).is_some(),
     }
+}
+
+/// Whether an object has a member of this key.
+fn has_key(members: &[(&str, Value<'_>)], wanted: &str) -> bool
+    ensures { result ≡ has_key_in wanted.now (members_view members.now) }
+{
+    for (key, _) in members {
+        if *key == wanted {
+            return true;
+        }
+    }
+    false
+}
+
+/// Whether these members have `$options` without `$regex`, whose options they are.
+pub(crate) fn has_lone_options(members: &[(&str, Value<'_>)]) -> bool
+    ensures { result ≡ lone_options_in (members_view members.now) }
+{
+    has_key(members, "$options") && !has_key(members, "$regex")
 }

@@ -1,4 +1,5 @@
 use Rattle.std.proofs.Common.{rules, ◌≡◌, ◌↔◌, ◌∙◌, IsTrue, true, false, ℕ, List, Option, Some, None, String, is_some, refl, sym, ap, subst}
+use Rattle.std.specs.Prelude.{option_and_then}
 use Rattle.std.proofs.lemmas.Int.{to_z-of_z}
 use mir.Syntax.{w64}
 use mir.Val.{SFits}
@@ -9,8 +10,8 @@ use Rattle.bson_raw.specs.Walk.{steps_from}
 use Rattle.store_filter.specs.Filters.{path_of}
 use Rattle.store_model.specs.Filter.{under_places}
 use Rattle.store_question.specs.declared.question.Question.{Question, the_lemmas}
-use Rattle.store_question.specs.Asked.{Asked, at, whole, has_item, leaves, Answers, AtMember, AtPlace, Along, HasItem, Through}
-use Rattle.store_question.specs.Reads.{Form, at_form, whole_form, item_form, remainder_form, Reads, form_of}
+use Rattle.store_question.specs.Asked.{Asked, at, whole, has_item, leaves, begins, begins_so, text_in, Answers, AtMember, AtPlace, Along, HasItem, Through}
+use Rattle.store_question.specs.Reads.{Form, at_form, whole_form, item_form, remainder_form, begins_form, Reads, form_of}
 use Rattle.store_question.proofs.AskLemmas.{answered, all_broken, all_on, all_end, some_found, some_on, some_end, has_items, end_item, end_itself, is_document, no_document, member_document, member_array, member_other, place_document, place_array, place_other, into_it}
 use Rattle.store_question.proofs.WalkLemmas.{any_start, any_here, any_passed, any_fault, any_end}
 use Rattle.store_question.proofs.answer.+asking.Goals as goal
@@ -137,6 +138,14 @@ fits-returns-in-Remainder t c =
     let second : SFits w64 c.in-Remainder.remainder = search rules in
     let told = simp to_z-of_z at (c.leaves.ensures o s) in
     answered c.leaves.result a (leaves c.in-Remainder.divisor c.in-Remainder.remainder) o p (λ u. sym told ∙ u, λ u. told ∙ u)
+
+pub fits-returns-in-Begins : goal.fits-returns-in-Begins
+fits-returns-in-Begins t c =
+    λ a r o s.
+    let same : form_of c.args.question.now ≡ begins_form c.in-Begins.beginning.items = rw c.in-Begins.is (search (rules, the_lemmas)) in
+    let p = subst (λ (f : Form). Reads f a) same r in
+    let told = c.begins.ensures o s ∙ ap (λ (b : List ℕ). begins_so b (option_and_then text_in o)) c.as_slice-in-Begins.ensures.value in
+    answered c.begins.result a (begins c.in-Begins.beginning.items) o p (λ u. sym told ∙ u, λ u. told ∙ u)
 
 pub fits-returns-in-Item : goal.fits-returns-in-Item
 fits-returns-in-Item t c =

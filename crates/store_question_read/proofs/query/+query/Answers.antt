@@ -4,7 +4,7 @@ use Rattle.store_question.specs.Asked.{all_of, any_of, no, whole, has_item}
 use Rattle.store_question.specs.declared.question.Question.{Question}
 use Rattle.store_question_read.proofs.LoopLemmas.{each_over, each_turn, entries_over, entries_turn, tests_halt, tests_over, tests_turn}
 use Rattle.store_question_read.proofs.OnwardLemmas.{SoFar, array_seen, failed, leaves_by, none_yet, object_seen, onward, when_false, when_true}
-use Rattle.store_question_read.proofs.QueryLemmas.{alone, kinds_of_array, not_alone}
+use Rattle.store_question_read.proofs.QueryLemmas.{alone, kinds_of_array, lone_refused, not_alone, put_together}
 use Rattle.store_question_read.specs.Outcome.{AskEach, Asks, Gives}
 use Rattle.store_question_read.specs.Query.{are_of_items, are_operators, each, entries, every, filled, holds, is_array, items, match_alone, matching, one_at_least, operators, query, tests}
 use Rattle.store_question_read.specs.declared.words.Listed.TheVariants.{Kinds}
@@ -57,6 +57,14 @@ pub all_tests-returns-in_ok-list : goal.all_tests-returns-in_ok-list
 all_tests-returns-in_ok-list t c =
     when_true (are_operators (members_view c.args.members.now)) (Ok c.all.result) _ _ (sym c.are_operators.ensures ∙ c.if-are_operators.true)
     (onward AskEach Asks c.in_ok-list.list (Ok c.all.result) _ (λ qs. Ok (all_of qs)) c.in_ok-list.ensures c.all.ensures)
+
+pub together-returns-then-has_lone_options : goal.together-returns-then-has_lone_options
+together-returns-then-has_lone_options t c =
+    lone_refused (members_view c.args.members.now) (tests (map (λ x. x.now) c.args.path.now) (members_view c.args.members.now)) c.operand.result (sym c.has_lone_options.ensures ∙ c.if-has_lone_options.true) c.operand.ensures
+
+pub together-returns-else-has_lone_options : goal.together-returns-else-has_lone_options
+together-returns-else-has_lone_options t c =
+    put_together (members_view c.args.members.now) (tests (map (λ x. x.now) c.args.path.now) (members_view c.args.members.now)) c.tests.result (sym c.has_lone_options.ensures ∙ c.if-has_lone_options.false) c.tests.ensures
 
 pub tests-loop-key-init : goal.tests-loop-key-init
 tests-loop-key-init t c = subst (λ (l : List Question). SoFar l (tests (map (λ x. x.now) c.args.path.now) (members_view c.args.members.now)) (tests (map (λ x. x.now) c.args.path.now) (members_view c.args.members.now))) (sym c.new-questions.ensures.items) (none_yet (tests (map (λ x. x.now) c.args.path.now) (members_view c.args.members.now)))
