@@ -34,7 +34,7 @@ SEED = int(sys.argv[3]) if len(sys.argv) > 3 else 1
 # How many lists one process answers, each over collections of its own.
 BATCH = 50
 # How often a time is measured.
-RUNS = 4
+RUNS = 3
 OF_INDEXES = ("index", "drop_index")
 
 IDS = [0, 1, 2, 3, 1.5, 2.0, "A", "B", None, {"x": 1}, {"$oid": "650000000000000000000002"}]
@@ -278,7 +278,7 @@ def changes_beside_indexes():
 
 def measure():
     """Questions are answered as without an index. Of those that it serves each sort takes a small part of the time."""
-    changes, numbers = changes_beside_indexes(), range(0, 2000, 20)
+    changes, numbers = changes_beside_indexes(), range(0, 2000, 4)
     plain = without_indexes(changes)
     start, times = seconds(changes, "base.db")[1], []
     for query, wanted in SERVED + NOT_SERVED:
