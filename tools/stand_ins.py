@@ -33,7 +33,7 @@ TOKEN = re.compile(r"""
     [A-Za-z_]\w* | \S""", re.VERBOSE | re.DOTALL)
 OPENING, CLOSING = "([{", ")]}"
 # What stands at functions that call each other, as these don't any more; types keep it.
-CYCLE = re.compile(r"^[ \t]*#\[cycle\([^)]*\)\]\n(?=(?:[ \t]*(?:#\[|//).*\n)*[ \t]*(?:pub(?:\(\w+\))? )?(?:unsafe )?fn )", re.MULTILINE)
+CYCLE = re.compile(r"^[ \t]*#\[cycle\(([^)]*)\)\]\n(?=(?:[ \t]*(?:#\[|//).*\n)*[ \t]*(?:pub(?:\(\w+\))? )?(?:unsafe )?fn )", re.MULTILINE)
 CLAUSES = ("ensures", "requires", "measure", "ghost")
 
 
