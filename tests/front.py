@@ -294,6 +294,12 @@ for words, hint in [
     (["t.db", "export"], "the words are fallowtime FILE export COLL "),
     (["t.db", "Update", "c", "1"], "there is no command 'Update', but there is update; "),
     (["t.db", "show"], "there is no command 'show', but there is collections; "),
+    (["t.db", "drop", "c"], "there is no command 'drop', but there is delete; "),
+    (["t.db", "exit"], "there is no command 'exit'; "),
+    (["t.db", "quit"], "there is no command 'quit'; "),
+    (["t.db", "find", "c", "--limit=2"], "an option and what it takes are two words: --limit 2"),
+    (["t.db", "find", "c", "{}", "--wait=2", "--canonical"], "an option and what it takes are two words: "),
+    (["t.db", "get", "c", "-a=b", "1", "2"], "the words are fallowtime FILE get COLL ID "),
     (["t.db", "edit", "c"], "the words are fallowtime FILE edit COLL ID [--wait SECONDS]"),
     (["t.db", "import-al", "d"], "there is no command 'import-al', but there is import-all; "),
     (["t.db", "version"], "the words are fallowtime version"),
@@ -323,6 +329,8 @@ for words, status, advice in [
     (["advice.db", "get", "c", '{"$oid":"12"}'], 2, "an ObjectId is "),
     (["advice.db", "set", "c", "1", "k", "new"], 2, "a text has quotes of its own "),
     (["advice.db", "set", "c", "1", "k", '{"$date":"2026"}'], 2, "a text has quotes of its own "),
+    (["advice.db", "set", "c", "1", "k", '{"$binary":"AAEC","$type":"00"}'], 2, "a binary value is "),
+    (["advice.db", "update", "c", "{}", "1"], 2, "an update is an object of operators, "),
     (["advice.db", "find", "c", "k"], 2, "a query is an object, "),
 ]:
     if knows:

@@ -533,6 +533,34 @@ const WORDS: &str =
     "  `Usage`: over `fallowtime FILE`, the answer to a line that is no JSON or no request; `at` says what can't be read.
 ";
 
+/// The text of an item on devices, files, queries and updates; of any other one that of `Words`.
+fn text_of_further(item: Item) -> &'static str {
+    match item {
+        Item::Writer => WRITER,
+        Item::BsonStream => BSON_STREAM,
+        Item::LineUtf8 => LINE_UTF8,
+        Item::NoFile => NO_FILE,
+        Item::Busy => BUSY,
+        Item::Denied => DENIED,
+        Item::NoDatabase => NO_DATABASE,
+        Item::Journal => JOURNAL,
+        Item::NotPlain => NOT_PLAIN,
+        Item::NoFolder => NO_FOLDER,
+        Item::NoName => NO_NAME,
+        Item::Exists => EXISTS,
+        Item::Disk => DISK,
+        Item::Query => QUERY,
+        Item::Update => UPDATE,
+        Item::Through => THROUGH,
+        Item::NotANumber => NOT_A_NUMBER,
+        Item::NotAnArray => NOT_AN_ARRAY,
+        Item::Decimal => DECIMAL,
+        Item::Overflow => OVERFLOW,
+        Item::OtherId => OTHER_ID,
+        _ => WORDS,
+    }
+}
+
 /// The text of an item.
 pub(crate) fn text_of(item: Item) -> &'static str {
     match item {
@@ -562,27 +590,6 @@ pub(crate) fn text_of(item: Item) -> &'static str {
         Item::Places => PLACES,
         Item::Memory => MEMORY,
         Item::Reader => READER,
-        Item::Writer => WRITER,
-        Item::BsonStream => BSON_STREAM,
-        Item::LineUtf8 => LINE_UTF8,
-        Item::NoFile => NO_FILE,
-        Item::Busy => BUSY,
-        Item::Denied => DENIED,
-        Item::NoDatabase => NO_DATABASE,
-        Item::Journal => JOURNAL,
-        Item::NotPlain => NOT_PLAIN,
-        Item::NoFolder => NO_FOLDER,
-        Item::NoName => NO_NAME,
-        Item::Exists => EXISTS,
-        Item::Disk => DISK,
-        Item::Query => QUERY,
-        Item::Update => UPDATE,
-        Item::Words => WORDS,
-        Item::Through => THROUGH,
-        Item::NotANumber => NOT_A_NUMBER,
-        Item::NotAnArray => NOT_AN_ARRAY,
-        Item::Decimal => DECIMAL,
-        Item::Overflow => OVERFLOW,
-        Item::OtherId => OTHER_ID,
+        further => text_of_further(further),
     }
 }
