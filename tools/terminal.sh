@@ -68,6 +68,15 @@ open_input() {
     { command exec <"$1"; } 2>/dev/null || fail "$1 can't be read"
 }
 
+# Fails if standard input is a file whose first bytes say that it has no lines of JSON.
+see_lines() {
+    [ -f /dev/stdin ] || return 0
+    case $(head -c 3 /dev/stdin 2>/dev/null | od -An -tx1 | tr -d ' \n') in
+    1f8b*) fail "the documents are packed by gzip: gunzip -c PACKED | fallowtime FILE import COLL --json" ;;
+    efbbbf) fail "the file begins with a byte order mark: tail -c +4 FILE.json | fallowtime FILE import COLL --json" ;;
+    esac
+}
+
 # If standard input is a file whose text begins with a bracket, an array of documents, makes it lines of these.
 open_items() {
     [ -f /dev/stdin ] || return 0
@@ -91,7 +100,8 @@ import_file() {
     *,*" --json "*) ;;
     *.json,* | *.jsonl,* | *.ndjson,*) set -- "$@" --json ;;
     esac
-    case " $* " in *" --json "*) open_items ;; esac
+    case " $* " in *" --json "*) see_lines; open_items ;; esac
+    [ ! -t 0 ] || [ ! -f "$collection" ] || fail "COLL is missing in front of the file: fallowtime FILE import COLL $collection"
     [ ! -t 0 ] || say "documents are read from the terminal, until Ctrl-D; import COLL FILE reads a file"
     run "$store" import "$collection" "$@"
 }

@@ -90,6 +90,11 @@ pub fn hint_at_collection(rt: &HostRuntime, names: &[String], name: &str) {
     }
 }
 
+/// Says what helps if nothing answers a query.
+pub fn hint_at_query(rt: &HostRuntime, advice: &str) {
+    note(rt, advice, Ok(String::new(rt.alloc())));
+}
+
 /// What mostly helps after a refusal of this kind: by what packed the bytes of an import, or by the words behind the command.
 fn advice(kind: &str, arguments: &[String], packing: Option<Packing>) -> Option<&'static str> {
     match advice_on_packed(kind, packing) {

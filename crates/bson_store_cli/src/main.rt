@@ -152,6 +152,7 @@ fn run_by_words(rt: &HostRuntime, words: &[String]) -> u8 {
         help::hint(rt, words);
     } else {
         fallowtime::point_at_collection(rt, words);
+        fallowtime::point_at_query(rt, words);
     }
     status
 }

@@ -1,7 +1,9 @@
 -- Words as strings.
 use Rattle.std.proofs.Common.{◌≡◌, ◌↔◌, ◌≤◌, ◌<◌, ℕ, List, [], ◌∷◌, length, map, slice_index_or, string_bytes, String, Global, Bool, false, IsTrue, Result, Ok, Err, IfOk, refl, sym, ◌∙◌, ap, subst, arith}
 use Rattle.std.specs.declared.alloc.AllocError.{AllocError}
+use Rattle.std.specs.List.{list_any}
 use Rattle.fallowtime_help.specs.Advice.{HasObjectId, IsObjectId}
+use Rattle.fallowtime_help.specs.Hints.{HintsIf, is_joined}
 use Rattle.fallowtime_help.proofs.TopicLemmas.{not_both}
 
 pub no_second : (ws : List (String Global)) → length ws < 2 → IsTrue false ↔ HasObjectId (map string_bytes ws)
@@ -32,6 +34,19 @@ told_so (Err e) P Q f h = tt
 pub same_file : (ws bs : List (String Global)) (f : String Global) (file : List ℕ) (rest : List (List ℕ)) → ws ≡ f ∷ bs → map string_bytes ws ≡ file ∷ rest
     → string_bytes f ≡ file
 same_file ws bs f file rest e is = in_front (string_bytes f) file (map string_bytes bs) rest (sym (ap (map string_bytes) e) ∙ is)
+
+behind_it : (v w : List ℕ) (vs ws : List (List ℕ)) → v ∷ vs ≡ w ∷ ws → vs ≡ ws
+behind_it v w vs ws e = cc
+
+pub same_behind : (ws bs : List (String Global)) (f : String Global) (file : List ℕ) (rest : List (List ℕ)) → ws ≡ f ∷ bs → map string_bytes ws ≡ file ∷ rest
+    → map string_bytes bs ≡ rest
+same_behind ws bs f file rest e is = behind_it (string_bytes f) file (map string_bytes bs) rest (sym (ap (map string_bytes) e) ∙ is)
+
+-- an option and its value are one word, or not
+pub hints_so : (r : Result (String Global) AllocError) (P : String Global → Type 0) (b : Bool) (word : List ℕ) (words rest : List (List ℕ)) → b ≡ list_any is_joined words → words ≡ rest → ((t : String Global) → P t → HintsIf b word (string_bytes t)) → IfOk r P
+    → IfOk r (λ t. HintsIf (list_any is_joined rest) word (string_bytes t))
+hints_so r P b word words rest is same f h =
+    told_so r P (λ t. HintsIf (list_any is_joined rest) word (string_bytes t)) (λ t p. subst (λ x. HintsIf x word (string_bytes t)) (is ∙ ap (list_any is_joined) same) (f t p)) h
 
 pub same_word : (ws bs cs : List (String Global)) (f w : String Global) (file word : List ℕ) (more : List (List ℕ)) → ws ≡ f ∷ bs → bs ≡ w ∷ cs
     → map string_bytes ws ≡ file ∷ word ∷ more → string_bytes w ≡ word

@@ -1,32 +1,33 @@
 -- What is said of words that are no line of the table.
-use Rattle.std.specs.Prelude.{◌≡◌, ◌≢◌, ◌⊎◌, ◌==◌, ◌&&◌, ◌||◌, ℕ, List, [], ◌∷◌, ◌++◌, leb, codes, take, Bool, if◌then◌else◌, Option, Some, None}
-use Rattle.std.specs.List.{filter}
+use Rattle.std.specs.Prelude.{◌≡◌, ◌≢◌, ◌⊎◌, ◌==◌, ◌&&◌, ◌||◌, ℕ, List, [], ◌∷◌, ◌++◌, leb, codes, take, Bool, true, false, if◌then◌else◌, Option, Some, None}
+use Rattle.std.specs.List.{filter, list_any}
 use Rattle.std.specs.Str.{bytes_eq, str_to_ascii_lowercase}
-use Rattle.fallowtime_words.specs.Commands.{command_name, BeginsWith}
+use Rattle.fallowtime_words.specs.Commands.{command_name, command_of, BeginsWith}
 use Rattle.fallowtime_words.specs.declared.command.Command.{Command}
-use Rattle.fallowtime_words.specs.declared.command.Command.TheVariants.{Insert, Put, Remove, Find, Import, Export, Collections}
+use Rattle.fallowtime_words.specs.declared.command.Command.TheVariants.{Insert, Put, Delete, Remove, Find, Import, Export, Collections}
 use Rattle.fallowtime_help.specs.Nearest.{IsAmong, IsNearest, IsNearestName}
 use Rattle.fallowtime_help.specs.Usage.{line_text}
-use Rattle.fallowtime_help.specs.declared.hint.TheConstants.{OPTIONS}
+use Rattle.fallowtime_help.specs.declared.hint.TheConstants.{JOINED, OPTIONS}
 use Rattle.fallowtime_help.specs.declared.hint.OtherName.{OtherName}
 
--- how commands are called elsewhere
-abbrev pub other_names : List (List ℕ × Command)
-other_names = (codes "rm", Remove) ∷ (codes "upsert", Put) ∷ (codes "save", Put) ∷ (codes "add", Insert)
-    ∷ (codes "select", Find) ∷ (codes "query", Find) ∷ (codes "show", Collections) ∷ (codes "ls", Collections) ∷ (codes "load", Import) ∷ (codes "dump", Export) ∷ []
+-- how commands are called elsewhere, and words that are called like one that isn't meant
+abbrev pub other_names : List (List ℕ × Option Command)
+other_names = (codes "rm", Some Remove) ∷ (codes "upsert", Some Put) ∷ (codes "save", Some Put) ∷ (codes "add", Some Insert)
+    ∷ (codes "select", Some Find) ∷ (codes "query", Some Find) ∷ (codes "show", Some Collections) ∷ (codes "ls", Some Collections) ∷ (codes "load", Some Import) ∷ (codes "dump", Some Export)
+    ∷ (codes "drop", Some Delete) ∷ (codes "exit", None) ∷ (codes "quit", None) ∷ []
 
--- the command of the first that is a word
-abbrev pub named_in : List (List ℕ × Command) → List ℕ → Option Command
+-- the command of the first that is a word, if there is one for it
+abbrev pub named_in : List (List ℕ × Option Command) → List ℕ → Option (Option Command)
 named_in [] word = None
 named_in (other ∷ others) word = if bytes_eq other.0 word then Some other.1 else named_in others word
 
-abbrev pub called_in : List OtherName → List ℕ → Option Command
+abbrev pub called_in : List OtherName → List ℕ → Option (Option Command)
 called_in [] word = None
 called_in (other ∷ others) word = if bytes_eq other.name.now word then Some other.command else called_in others word
 
 -- the command that is meant by a word: the one that is called so elsewhere, else the nearest of the table
 abbrev pub IsMeant : List ℕ → Option Command → Type 0
-IsMeant word meant = ((c : Command) × (named_in other_names word ≡ Some c) × (meant ≡ Some c)) ⊎ ((named_in other_names word ≡ None) × IsNearest 2 word meant)
+IsMeant word meant = (named_in other_names word ≡ Some meant) ⊎ ((named_in other_names word ≡ None) × IsNearest 2 word meant)
 
 -- a letter, a digit, or one of _ . -
 abbrev pub is_shown : ℕ → Bool
@@ -45,6 +46,23 @@ abbrev pub HintsAt : List ℕ → Option Command → List ℕ → Type 0
 HintsAt word (Some c) text = text ≡ codes "the words are " ++ line_text c
 HintsAt word None text = (BeginsWith (codes "-") word × (text ≡ OPTIONS.now))
     ⊎ (¬ BeginsWith (codes "-") word × ((meant : Option Command) × IsMeant (str_to_ascii_lowercase word) meant × (text ≡ unknown_text word meant)))
+
+-- an equals sign
+abbrev pub is_equals : ℕ → Bool
+is_equals b = b == 61
+
+-- an option with an equals sign
+abbrev pub is_joined : List ℕ → Bool
+is_joined (a ∷ b ∷ rest) = (a == 45) && (b == 45) && list_any is_equals rest
+is_joined _ = false
+
+-- the hint at a word in the place of a command, with others behind it
+abbrev pub HintsIf : Bool → List ℕ → List ℕ → Type 0
+HintsIf true word text = text ≡ JOINED.now
+HintsIf false word text = HintsAt word (command_of word) text
+
+abbrev pub HintsBehind : List ℕ → List (List ℕ) → List ℕ → Type 0
+HintsBehind word more text = HintsIf (list_any is_joined (word ∷ more)) word text
 
 -- ---- names of collections
 

@@ -19,8 +19,12 @@ const NOT_FOUND: &str = "NotFound";
 /// What helps if an ID that is a text looks like an ObjectId.
 pub(crate) const OBJECT_ID: &str = "this ID is a text; an ObjectId is written '{\"$oid\":\"..\"}'";
 
+/// What helps if a query asks for a text that looks like an ObjectId.
+const OBJECT_ID_ASKED: &str =
+    "nothing is found, and QUERY asks for a text of 24 digits; an ObjectId is written {\"$oid\":\"..\"}";
+
 /// What helps after the commonest refusals; those of a FILE that can't be had say it themselves.
-pub(crate) const ADVICE: [Advice; 12] = [
+pub(crate) const ADVICE: [Advice; 15] = [
     Advice {
         kind: NOT_FOUND,
         text: "an ID is 42 for the number and '\"42\"' for the text; fallowtime FILE find COLL shows those that there are",
@@ -63,7 +67,19 @@ pub(crate) const ADVICE: [Advice; 12] = [
     },
     Advice {
         kind: "line",
-        text: "each line is a document, {..}; jq -c '.[]' makes lines of an array",
+        text: "each line is a whole document, {..}: jq -c . makes such lines of documents over several, jq -c '.[]' of an array; what gzip packed is unpacked first",
+    },
+    Advice {
+        kind: "update",
+        text: "an update is an object of operators, '{\"$set\":{\"to.city\":\"Ulm\"}}', at keys with dots between them; set and unset with --key take their PATH as one key",
+    },
+    Advice {
+        kind: "options",
+        text: "a path of --sort, --fields or --without is keys with dots between them, and paths have commas between them: --sort price:-1,to.city --fields price,to.city",
+    },
+    Advice {
+        kind: "fields",
+        text: "paths are keys with dots between them: none is empty, begins with $ or leads into another one, and beside --fields only the _id is left out",
     },
     Advice {
         kind: "ReservedKey",
@@ -74,6 +90,10 @@ pub(crate) const ADVICE: [Advice; 12] = [
 /// What helps if the bytes that `import` reads are no BSON.
 const STREAM: &str =
     "import reads BSON: for lines of JSON say --json; what gzip or mongodump --archive packed is unpacked first";
+
+/// What helps if a text has the form of a binary value from before Extended JSON v2.
+const OLD_BINARY: &str =
+    "a binary value is '{\"$binary\":{\"base64\":\"AAEC\",\"subType\":\"00\"}}'; the form with $type behind it isn't read";
 
 /// Whether a byte is a hexadecimal digit.
 fn is_digit(byte: u8) -> bool
@@ -133,6 +153,24 @@ fn advice_on_id(words: &[String]) -> Option<&'static str>
     advice_in(&ADVICE, NOT_FOUND)
 }
 
+/// Whether one of the words has a binary value in the form from before Extended JSON v2.
+fn has_old_binary(words: &[String]) -> bool {
+    for word in words {
+        if word.as_str().contains("\"$binary\"") && word.as_str().contains("\"$type\"") {
+            return true;
+        }
+    }
+    false
+}
+
+/// What mostly helps after a refusal of this kind, which isn't that of an `_id`, by what the words have in them.
+fn advice_by_words(kind: &str, words: &[String]) -> Option<&'static str> {
+    if matches!(kind, "JSON" | "query" | "update") && has_old_binary(words) {
+        return Some(OLD_BINARY);
+    }
+    advice_in(&ADVICE, kind)
+}
+
 /// What mostly helps after a refusal of this kind, in a line, if anything does. The words are those behind the command.
 pub fn advice_for(kind: &str, words: &[String]) -> Option<&'static str>
     ensures { kind.now ≡ codes "NotFound" → HasObjectId (map string_bytes words.now)
@@ -141,5 +179,20 @@ pub fn advice_for(kind: &str, words: &[String]) -> Option<&'static str>
     if kind == NOT_FOUND {
         return advice_on_id(words);
     }
-    advice_in(&ADVICE, kind)
+    advice_by_words(kind, words)
+}
+
+/// What helps if no document answers a query, in a line: if it asks for a text, in quotes, that has the digits of an
+/// ObjectId and isn't under `$oid`.
+pub fn advice_on_query(query: &str) -> Option<&'static str> {
+    let mut under = "";
+    let mut front = "";
+    for piece in query.split('"') {
+        if is_object_id(piece) && under != "$oid" {
+            return Some(OBJECT_ID_ASKED);
+        }
+        under = front;
+        front = piece;
+    }
+    None
 }

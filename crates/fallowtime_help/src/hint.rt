@@ -1,12 +1,12 @@
 //! What is wrong with words that are no line of the table.
 
 ghost use Rattle.std.specs.Prelude.{◌≡◌, ◌↔◌, ◌∷◌, ◌++◌, [], ℕ, List, IfOk, IsTrue, None, OnOk, Option, Some, codes, map, string_bytes, take};
-ghost use Rattle.std.specs.List.{filter};
+ghost use Rattle.std.specs.List.{filter, list_any};
 ghost use Rattle.std.specs.Str.{str_to_ascii_lowercase};
 ghost use Rattle.fallowtime_words.specs.Commands.{BeginsWith, command_of};
 ghost use Rattle.fallowtime_words.specs.Words.{IsFile};
 ghost use Rattle.fallowtime_words.specs.declared.command.Command.{Command as Named};
-ghost use Rattle.fallowtime_help.specs.Hints.{HintsAt, IsMeant, called_in, is_shown, meant_text, unknown_text};
+ghost use Rattle.fallowtime_help.specs.Hints.{HintsAt, HintsBehind, IsMeant, called_in, is_equals, is_joined, is_shown, meant_text, unknown_text};
 ghost use Rattle.fallowtime_help.specs.Usage.{line_text};
 
 use crate::nearest::nearest;
@@ -19,51 +19,63 @@ use std::alloc::{AllocError, Global};
 pub(crate) struct OtherName {
     /// The word.
     pub(crate) name: &'static str,
-    /// The command.
-    pub(crate) command: Command,
+    /// The command; none if there is none for it, whatever is called like it.
+    pub(crate) command: Option<Command>,
 }
 
 /// How a command is called elsewhere.
-pub(crate) const OTHER_NAMES: [OtherName; 10] = [
+pub(crate) const OTHER_NAMES: [OtherName; 13] = [
     OtherName {
         name: "rm",
-        command: Command::Remove,
+        command: Some(Command::Remove),
     },
     OtherName {
         name: "upsert",
-        command: Command::Put,
+        command: Some(Command::Put),
     },
     OtherName {
         name: "save",
-        command: Command::Put,
+        command: Some(Command::Put),
     },
     OtherName {
         name: "add",
-        command: Command::Insert,
+        command: Some(Command::Insert),
     },
     OtherName {
         name: "select",
-        command: Command::Find,
+        command: Some(Command::Find),
     },
     OtherName {
         name: "query",
-        command: Command::Find,
+        command: Some(Command::Find),
     },
     OtherName {
         name: "show",
-        command: Command::Collections,
+        command: Some(Command::Collections),
     },
     OtherName {
         name: "ls",
-        command: Command::Collections,
+        command: Some(Command::Collections),
     },
     OtherName {
         name: "load",
-        command: Command::Import,
+        command: Some(Command::Import),
     },
     OtherName {
         name: "dump",
-        command: Command::Export,
+        command: Some(Command::Export),
+    },
+    OtherName {
+        name: "drop",
+        command: Some(Command::Delete),
+    },
+    OtherName {
+        name: "exit",
+        command: None,
+    },
+    OtherName {
+        name: "quit",
+        command: None,
     },
 ];
 
@@ -74,6 +86,9 @@ pub(crate) const DASHED: &str =
 /// What is wrong with other options of a session.
 pub(crate) const OPTIONS: &str =
     "the words are fallowtime FILE [--messages] [--wait SECONDS]; fallowtime help COMMAND says what a command takes";
+
+/// What is wrong with an option and its value in one word.
+pub(crate) const JOINED: &str = "an option and what it takes are two words: --limit 2";
 
 /// What is wrong with other words.
 pub(crate) const GENERAL: &str =
@@ -112,8 +127,8 @@ pub(crate) fn front_of(word: &str) -> &[u8]
     }
 }
 
-/// The command that is called so elsewhere.
-fn called(names: &[OtherName], word: &str) -> Option<Command>
+/// The command, if there is one, for what is called so elsewhere.
+fn called(names: &[OtherName], word: &str) -> Option<Option<Command>>
     ensures { result ≡ called_in names.now word.now }
 {
     for other in names {
@@ -130,7 +145,7 @@ fn meant(word: &str) -> Option<Command>
     ensures { IsMeant word.now result }
 {
     match called(&OTHER_NAMES, word) {
-        Some(command) => Some(command),
+        Some(meant) => meant,
         None => nearest(word),
     }
 }
@@ -227,12 +242,53 @@ fn behind_either(alloc: Global, file: &str, word: &str) -> Result<String, AllocE
     behind_file(alloc, word)
 }
 
+/// Whether a byte is an equals sign.
+fn is_equals(byte: u8) -> bool
+    ensures { result ≡ is_equals byte }
+{
+    matches!(byte, b'=')
+}
+
+/// Whether one of the bytes is an equals sign.
+fn has_equals(bytes: &[u8]) -> bool
+    ensures { result ≡ list_any is_equals bytes.now }
+{
+    for byte in bytes {
+        if is_equals(*byte) {
+            return true;
+        }
+    }
+    false
+}
+
+/// Whether a word is an option with an equals sign.
+fn is_joined(word: &str) -> bool
+    ensures { result ≡ is_joined word.now }
+{
+    match word.as_bytes() {
+        [first, second, rest @ ..] => *first == b'-' && *second == b'-' && has_equals(rest),
+        _ => false,
+    }
+}
+
+/// Whether one of the words is.
+fn has_joined(words: &[String]) -> bool
+    ensures { result ≡ list_any is_joined (map string_bytes words.now) }
+{
+    for word in words {
+        if is_joined(word.as_str()) {
+            return true;
+        }
+    }
+    false
+}
+
 /// What is wrong with words that are no line of the table and ask nothing about the program, in a line.
 pub fn hint_of(alloc: Global, words: &[String]) -> Result<String, AllocError>
-    // Behind a FILE, which no command is called like, stands the command.
+    // Behind a FILE, which no command is called like, stands the command; or an option and its value are one word.
     ensures { (file word : List ℕ) (more : List (List ℕ)) → map string_bytes words.now ≡ file ∷ word ∷ more
         → IsFile file → command_of file ≡ None
-        → IfOk result (λ t. HintsAt word (command_of word) (string_bytes t)) }
+        → IfOk result (λ t. HintsBehind word more (string_bytes t)) }
 {
     let Some((file, behind)) = words.split_first() else {
         return String::from_str(alloc, GENERAL);
@@ -243,5 +299,8 @@ pub fn hint_of(alloc: Global, words: &[String]) -> Result<String, AllocError>
     let Some((word, _)) = behind.split_first() else {
         return without_file(alloc, file.as_str());
     };
+    if has_joined(behind) {
+        return String::from_str(alloc, JOINED);
+    }
     behind_either(alloc, file.as_str(), word.as_str())
 }

@@ -2,6 +2,7 @@ mod AskLemmas
 mod CountLemmas
 mod FirstLemmas
 mod InputLemmas
+mod KeyLemmas
 mod LineLemmas
 mod OptionLemmas
 mod ArrangeLemmas
