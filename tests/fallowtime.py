@@ -232,7 +232,7 @@ refused("set orders 9 to.city.x 1", "Through document 0")
 for line, fault in [("set orders 9 to..city 1", "$set to..city is no path of keys"), ("set orders 9 to.$city 1", "$set to.$city is no path of keys"),
                     ("unset orders 9 .to", "$unset .to is no path of keys"), ("unset orders 9 _id.x", "$unset _id.x is of the _id, which is never changed")]:
     check(line, (2, b"", f"words: update {fault}\n"))
-done("unset orders 9 to.city.x", "false")
+refused("unset orders 9 to.city.x", "Through document 0")
 done("unset orders 9 to.city", "true")
 done("unset orders 9 to.city --wait 0", "false")
 done("unset orders 9 to.name --key", "true")

@@ -342,7 +342,7 @@ for words, status, advice in [
 ]:
     if knows:
         found, told = told_at_terminal(PROGRAM, *words)
-        lines = [line.startswith(f"fallowtime: {advice}") or line for line in told[1:]]
+        lines = [line.startswith(f"fallowtime: {advice}") or line for line in told[bool(found):]]
         holds(f"advice after {words}", (found, lines), (status, [True] if advice else []))
 for path in HERE.iterdir():
     path.unlink()

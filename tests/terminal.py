@@ -153,6 +153,16 @@ for _ in range(40):
 print("documents by chance came in and out")
 for words, fault in [(["none.bson"], "none.bson isn't there"), (["."], ". is a folder: import-all takes all of a dump's folder")]:
     holds(f"import {words}", run("d.db", "import", "orders", *words), (1, "", f"fallowtime: {fault}\n"))
+(HERE / "packed.json").write_bytes(gzip.compress(LINES.encode()))
+(HERE / "marked.json").write_bytes(b"\xef\xbb\xbf" + LINES.encode())
+for name, fault in [("packed.json", "the documents are packed by gzip: gunzip -c PACKED | fallowtime FILE import COLL --json"),
+                    ("marked.json", "the file begins with a byte order mark: tail -c +4 FILE.json | fallowtime FILE import COLL --json")]:
+    holds(f"import {name}", run("d.db", "import", "orders", name), (1, "", f"fallowtime: {fault}\n"))
+    with open(HERE / name, "rb") as file:
+        given = subprocess.run([SCRIPT, "d.db", "import", "orders", "--json"], stdin=file, capture_output=True, text=True, cwd=HERE, env=ENVIRONMENT)
+    holds(f"import {name} as standard input", (given.returncode, given.stderr), (1, f"fallowtime: {fault}\n"))
+holds("a file in the place of COLL", at_terminal("d.db", "import", "orders.bson"),
+      (1, "fallowtime: COLL is missing in front of the file: fallowtime FILE import COLL orders.bson\n"))
 holds("a file too many", run("d.db", "import", "orders", "orders.bson", "orders.bson")[::2], (2, USAGE))
 holds("nothing was made", (HERE / "d.db").exists(), False)
 status, told = at_terminal("e.db", "import", "typed", "--json", given='{"_id":1}\n\x04')

@@ -550,31 +550,20 @@ fn needed_collection<'w>(words: &Words<'w>) -> Option<&'w str> {
     }
 }
 
-/// Says at a terminal that there is no such collection as the words name, and which one is meant.
-pub fn point_at_collection(rt: &HostRuntime, words: &[String]) {
-    if !rt.stderr().is_terminal() {
-        return;
-    }
-    let Some(Task::Command(words)) = read_words(words) else {
-        return;
+/// Says that there is no such collection as a command needs, and which one is meant. Whether it said so.
+fn point_at_collection(rt: &HostRuntime, words: &Words<'_>) -> bool {
+    let Some(name) = needed_collection(words) else {
+        return false;
     };
-    let Some(name) = needed_collection(&words) else {
-        return;
-    };
-    if let Some(names) = names_in(rt, words.file) {
-        help::hint_at_collection(rt, names.as_slice(), name);
+    match names_in(rt, words.file) {
+        Some(names) => help::hint_at_collection(rt, names.as_slice(), name),
+        None => false,
     }
 }
 
-/// Says at a terminal that nothing answers the query of the words, if it asks for a text where an ObjectId may be meant.
-pub fn point_at_query(rt: &HostRuntime, words: &[String]) {
-    if !rt.stderr().is_terminal() {
-        return;
-    }
-    let Some(Task::Command(words)) = read_words(words) else {
-        return;
-    };
-    let Some((query, question)) = count_of(rt.alloc(), &words) else {
+/// Says that nothing answers the query of a command, if it asks for a text where an ObjectId may be meant.
+fn point_at_query(rt: &HostRuntime, words: &Words<'_>) {
+    let Some((query, question)) = count_of(rt.alloc(), words) else {
         return;
     };
     let Some(advice) = advice_on_query(query) else {
@@ -583,5 +572,17 @@ pub fn point_at_query(rt: &HostRuntime, words: &[String]) {
     let found = found_in(rt, words.file, question.collection, &question.request);
     if let Some(Answer::Number(0)) = found {
         help::hint_at_query(rt, advice);
+    }
+}
+
+/// Says at a terminal what may be meant by the collection of the words, if it isn't there, or else by their query.
+pub fn point_at_meant(rt: &HostRuntime, words: &[String]) {
+    if !rt.stderr().is_terminal() {
+        return;
+    }
+    if let Some(Task::Command(words)) = read_words(words) {
+        if !point_at_collection(rt, &words) {
+            point_at_query(rt, &words);
+        }
     }
 }

@@ -63,7 +63,7 @@ pub(crate) const ADVICE: [Advice; 15] = [
     },
     Advice {
         kind: "query",
-        text: "a query is an object, in quotes of the shell: '{\"price\":{\"$in\":[1,1.5]}}'",
+        text: "a query is an object, in quotes of the shell: '{\"price\":{\"$in\":[1,1.5]}}'; a date is {\"$date\":\"2026-01-02T03:04:05Z\"}",
     },
     Advice {
         kind: "line",

@@ -519,9 +519,9 @@ const UPDATE: &str =
 ";
 
 const THROUGH: &str =
-    "  `Through`: of `update`, and of `set` with a path: that leads through a value that is no document, such as `a.b` where
-  `a` is a number or an array. N counts the documents that `find COLL QUERY` prints, and is 0 of `set`; without it the
-  document is that of `--upsert`. Nothing was changed, as after each of the next five.
+    "  `Through`: of `update`, `set` and `unset`: a path leads through a value that is no document, such as `a.b` where `a`
+  is a number or an array. N counts the documents that `find COLL QUERY` prints, and is 0 of `set` and `unset`; without
+  it the document is that of `--upsert`. Nothing was changed, as after each of the next five.
 ";
 
 const NOT_A_NUMBER: &str = "  `NotANumber`: `$inc` or `$mul` of a value that is no number.

@@ -157,7 +157,8 @@ such as to.city, as those of $unset of update.
     fallowtime shop.db unset orders 1 status
     fallowtime shop.db unset orders A-4 to.city
 
-May be refused: NotFound, NoFile, BadName, BadKey; words: id, words: update.
+May be refused: NotFound, NoFile, BadName, BadKey, Through; words: id, words:
+update.
 ";
 
 const UPDATE: &str = "
