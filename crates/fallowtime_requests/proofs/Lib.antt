@@ -1,3 +1,4 @@
+mod AlongLemmas
 mod AskLemmas
 mod CountLemmas
 mod FirstLemmas
