@@ -60,8 +60,8 @@ _fallowtime() {
     insert) front=5 options="--canonical --wait" ;;
     put | replace | remove) front=5 ;;
     get) front=5 options="--canonical --bson --pretty --wait" ;;
-    set) front=7 ;;
-    unset) front=6 ;;
+    set) front=7 options="--key --wait" ;;
+    unset) front=6 options="--key --wait" ;;
     update) front=6 options="--many --upsert --wait" ;;
     replace-one) front=6 options="--upsert --wait" ;;
     delete) front=5 options="--many --wait" ;;

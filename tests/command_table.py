@@ -4,13 +4,13 @@ import re
 
 TABLE = pathlib.Path(__file__).resolve().parent.parent / "crates/fallowtime_words/src/table.rt"
 # What pages and the help have for each argument; an object of options is no word. The script alone takes INPUT.
-ARGUMENTS = {"Collection": "COLL", "Document": "DOC", "Id": "ID", "Key": "KEY", "Value": "VALUE", "Query": "[QUERY]", "Selection": "QUERY", "Update": "UPDATE",
+ARGUMENTS = {"Collection": "COLL", "Document": "DOC", "Id": "ID", "Key": "PATH", "Value": "VALUE", "Query": "[QUERY]", "Selection": "QUERY", "Update": "UPDATE",
              "Options": "", "Documents": "[INPUT]", "IndexPath": "PATH", "File": "PATH", "Folder": "DIR"}
 # The options beside --wait by the constants of the table.
 OPTIONS = {"NO_OPTION": [], "CANONICAL": ["--canonical"], "PRINTED": ["--canonical", "--bson"],
            "FOUND": ["--sort", "--skip", "--limit", "--fields", "--without", "--canonical", "--bson"], "LINES": ["--json"], "MANY": ["--many"],
            "FOUND_AFTER": ["--sort", "--skip", "--limit", "--fields", "--without", "--after", "--canonical", "--bson"],
-           "MANY_OR_UPSERT": ["--many", "--upsert"], "UPSERT": ["--upsert"], "COUNTED": ["--count", "--canonical"]}
+           "MANY_OR_UPSERT": ["--many", "--upsert"], "UPSERT": ["--upsert"], "COUNTED": ["--count", "--canonical"], "LITERAL": ["--key"]}
 
 # The options that the script takes for the program.
 OF_SCRIPT = {"get": ["--pretty"], "find": ["--pretty"]}

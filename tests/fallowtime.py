@@ -52,8 +52,8 @@ COMMANDS = {
     "put": (["c", '{"_id":1}'], []),
     "replace": (["c", '{"_id":1}'], []),
     "get": (["c", "1"], ["--canonical", "--bson"]),
-    "set": (["c", "1", "k", "1"], []),
-    "unset": (["c", "1", "k"], []),
+    "set": (["c", "1", "k", "1"], ["--key"]),
+    "unset": (["c", "1", "k"], ["--key"]),
     "update": (["c", "{}", '{"$set":{"a":1}}'], ["--many"]),
     "replace-one": (["c", "{}", "{}"], []),
     "delete": (["c", "{}"], ["--many"]),
@@ -223,7 +223,22 @@ done('set orders 9 --wait "--json" --wait 0')
 done("get orders 9", '{"_id":9,"b":"x","a":2.5,"":null,"--wait":"--json"}')
 done(["unset", "orders", "9", ""], "true")
 done("unset orders 9 --wait", "true")
-for line in ["set orders 8 a 1", "unset orders 8 a", "remove orders 8", "get orders 8", "get orders 8 --bson"]:
+# A path of several keys is one of $set and $unset, and with --key it is one key.
+done("set orders 9 to.city 1.5")
+done("set orders 9 to.name {} --key --wait 0")
+done("set orders 9 to.zip 2 --wait 0")
+done("get orders 9", '{"_id":9,"b":"x","a":2.5,"to":{"city":1.5,"zip":2},"to.name":{}}')
+refused("set orders 9 to.city.x 1", "Through document 0")
+for line, fault in [("set orders 9 to..city 1", "$set to..city is no path of keys"), ("set orders 9 to.$city 1", "$set to.$city is no path of keys"),
+                    ("unset orders 9 .to", "$unset .to is no path of keys"), ("unset orders 9 _id.x", "$unset _id.x is of the _id, which is never changed")]:
+    check(line, (2, b"", f"words: update {fault}\n"))
+refused("unset orders 9 to.city.x", "Through document 0")
+done("unset orders 9 to.city", "true")
+done("unset orders 9 to.city --wait 0", "false")
+done("unset orders 9 to.name --key", "true")
+done("get orders 9", '{"_id":9,"b":"x","a":2.5,"to":{"zip":2}}')
+done("unset orders 9 to --key", "true")
+for line in ["set orders 8 a.b 1", "unset orders 8 a.b", "set orders 8 a 1", "unset orders 8 a", "remove orders 8", "get orders 8", "get orders 8 --bson"]:
     refused(line, "NotFound _id 8")
 for line in "set orders 9 _id 1", "unset orders 9 _id", "set orders 8 _id 1":
     refused(line, "BadKey")

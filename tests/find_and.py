@@ -218,8 +218,8 @@ def beside_each_other():
 def refusals():
     for line, answer in [(["find-and-update", "c", {}, {"$set": {"a": 1}}, {"skips": 1}], "options"), (["find-and-delete", "c", {}, {"after": True}], "options"),
                          (["find", "c", {}, {"after": True}], "options"), (["find-and-update", "c", {}, {"$set": {"a": 1}}, {"after": 1}], "options"),
-                         (["find-and-replace", "c", {}, 1], "document"), (["find-and-update", "c", {}, 1], "update is no object"), (["find-and-delete", "c"], "command"),
-                         (["find-and-delete", "c", 1], "query is no object"), (["find-and-update", "c", {}, {}, {}, {}], "command")]:
+                         (["find-and-replace", "c", {}, 1], "document"), (["find-and-update", "c", {}, 1], "update is no object"), (["find-and-delete", "c"], "arguments"),
+                         (["find-and-delete", "c", 1], "query is no object"), (["find-and-update", "c", {}, {}, {}, {}], "arguments")]:
         holds(line, json.loads(run([], (json.dumps(line) + "\n").encode()).stdout), {"error": "Usage", "at": answer})
     for words, status in [(["find-and-delete", "c", "{}", "--after"], 2), (["find", "c", "--after"], 2), (["find-and-update", "c", "{}"], 2),
                           (["find-and-update", "c", "{}", "{}", "--many"], 2), (["find-and-delete", "c", "{}", "--after", "--after"], 2), (["find-and-delete", "", "{}"], 1)]:

@@ -330,12 +330,19 @@ for words, status, advice in [
     (["advice.db", "set", "c", "1", "k", "new"], 2, "a text has quotes of its own "),
     (["advice.db", "set", "c", "1", "k", '{"$date":"2026"}'], 2, "a text has quotes of its own "),
     (["advice.db", "set", "c", "1", "k", '{"$binary":"AAEC","$type":"00"}'], 2, "a binary value is "),
-    (["advice.db", "update", "c", "{}", "1"], 2, "an update is an object of operators, "),
+    (["advice.db", "set", "c", "1", "a..b", "1"], 2, "an update is an object of operators, "),
     (["advice.db", "find", "c", "k"], 2, "a query is an object, "),
+    (["advice.db", "find", "c", "--sort", "-a"], 2, "a path of --sort, "),
+    (["advice.db", "find", "c", "--fields", "a,a"], 2, "paths are keys with dots between them: "),
+    (["advice.db", "find", "c", '{"a":"65000000000000000000000a"}'], 0, "nothing is found, and QUERY asks for a text of 24 digits; "),
+    (["advice.db", "delete", "c", '{"a":"65000000000000000000000a"}'], 0, "nothing is found, and QUERY asks for a text of 24 digits; "),
+    (["advice.db", "find", "c", '{"a":{"$oid":"65000000000000000000000a"}}'], 0, None),
+    (["advice.db", "find", "c", '{"$or":[{"_id":1},{"a":"65000000000000000000000a"}]}'], 0, None),
+    (["advice.db", "find", "c", '{"a":"65000000000000000000000"}'], 0, None),
 ]:
     if knows:
         found, told = told_at_terminal(PROGRAM, *words)
-        lines = [line.startswith(f"fallowtime: {advice}") or line for line in told[1:]]
+        lines = [line.startswith(f"fallowtime: {advice}") or line for line in told[bool(found):]]
         holds(f"advice after {words}", (found, lines), (status, [True] if advice else []))
 for path in HERE.iterdir():
     path.unlink()
@@ -492,7 +499,7 @@ for line, wanted in [
     (["shop.db", "insert", "more", "{}", "--"], ["--canonical", "--wait"]),
     (["shop.db", "insert", "more", "--"], [""]),
     (["shop.db", "import", "more", "--"], ["--json", "--wait"]),
-    (["shop.db", "set", "more", "1", "k", "v", ""], ["--wait"]),
+    (["shop.db", "set", "more", "1", "k", "v", ""], ["--key", "--wait"]),
     (["shop.db", "collections", ""], ["--wait"]),
     (["shop.db", "collections", "--wait", ""], [""]),
     (["shop.db", "backup", "sh"], ["shop.db"]),

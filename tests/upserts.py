@@ -231,7 +231,7 @@ def main():
             one_request(lines)
         for request, at in [(["update", "c", {}, {"$set": {"a": 1}}, {"upsert": 1}], "options"), (["update", "c", {}, {"$set": {"a": 1}}, {"upsert": True, "x": True}], "options"),
                             (["replace-one", "c", {}, {}, {"upsert": True, "many": True}], "options"), (["delete", "c", {}, {"upsert": True}], "options"),
-                            (["replace-one", "c", {}, {}, {}], "command")]:
+                            (["replace-one", "c", {}, {}, {}], "arguments")]:
             answer = lines.ask(*request)
             if answer != {"error": "Usage", "at": at}:
                 sys.exit(f"upserts.py: {json.dumps(request)} is answered by {answer}")

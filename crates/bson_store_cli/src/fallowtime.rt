@@ -26,8 +26,8 @@ use bson_base::write_all;
 use bson_store::{ErrorKind, Sink, Source, Store};
 use cli_files::{FileError, close, copy, open_parts, open_within, read};
 use fallowtime_commands::{Answer, Refusal, execute, export_all, look_up, print_found};
-use fallowtime_front::{Asked, Ended, asked_of, ended_of, form_of, tell};
-use fallowtime_help::{Packing, packing_of, topic_of};
+use fallowtime_front::{Asked, Ended, asked_of, count_of, ended_of, form_of, tell};
+use fallowtime_help::{Packing, advice_on_query, packing_of, topic_of};
 use fallowtime_requests::{Request, Unread};
 use fallowtime_texts::IdMaker;
 use fallowtime_wire::database_of;
@@ -516,15 +516,25 @@ pub fn serve<I: Source, O: Sink, F: Sink>(
     }
 }
 
-/// The collections of a file, if its pages tell them.
-fn names_in(rt: &HostRuntime, file: &str) -> Option<Vec<String>> {
+/// What a request that only reads returns, if the pages of the file tell it.
+fn found_in(
+    rt: &HostRuntime,
+    file: &str,
+    collection: &str,
+    request: &Request<'_>,
+) -> Option<Answer> {
     let (files, moment) = open_parts(rt, file, Unknown).ok()??;
-    let (outcome, pages) = look_up(rt.alloc(), files, "", &Request::Collections)?;
+    let (outcome, pages) = look_up(rt.alloc(), files, collection, request)?;
     if !moment.is_still(rt, &pages).ok()? {
         return None;
     }
-    match outcome {
-        Ok(Answer::Names(names)) => Some(names),
+    outcome.ok()
+}
+
+/// The collections of a file, if its pages tell them.
+fn names_in(rt: &HostRuntime, file: &str) -> Option<Vec<String>> {
+    match found_in(rt, file, "", &Request::Collections)? {
+        Answer::Names(names) => Some(names),
         _ => None,
     }
 }
@@ -540,18 +550,39 @@ fn needed_collection<'w>(words: &Words<'w>) -> Option<&'w str> {
     }
 }
 
-/// Says at a terminal that there is no such collection as the words name, and which one is meant.
-pub fn point_at_collection(rt: &HostRuntime, words: &[String]) {
+/// Says that there is no such collection as a command needs, and which one is meant. Whether it said so.
+fn point_at_collection(rt: &HostRuntime, words: &Words<'_>) -> bool {
+    let Some(name) = needed_collection(words) else {
+        return false;
+    };
+    match names_in(rt, words.file) {
+        Some(names) => help::hint_at_collection(rt, names.as_slice(), name),
+        None => false,
+    }
+}
+
+/// Says that nothing answers the query of a command, if it asks for a text where an ObjectId may be meant.
+fn point_at_query(rt: &HostRuntime, words: &Words<'_>) {
+    let Some((query, question)) = count_of(rt.alloc(), words) else {
+        return;
+    };
+    let Some(advice) = advice_on_query(query) else {
+        return;
+    };
+    let found = found_in(rt, words.file, question.collection, &question.request);
+    if let Some(Answer::Number(0)) = found {
+        help::hint_at_query(rt, advice);
+    }
+}
+
+/// Says at a terminal what may be meant by the collection of the words, if it isn't there, or else by their query.
+pub fn point_at_meant(rt: &HostRuntime, words: &[String]) {
     if !rt.stderr().is_terminal() {
         return;
     }
-    let Some(Task::Command(words)) = read_words(words) else {
-        return;
-    };
-    let Some(name) = needed_collection(&words) else {
-        return;
-    };
-    if let Some(names) = names_in(rt, words.file) {
-        help::hint_at_collection(rt, names.as_slice(), name);
+    if let Some(Task::Command(words)) = read_words(words) {
+        if !point_at_collection(rt, &words) {
+            point_at_query(rt, &words);
+        }
     }
 }

@@ -83,11 +83,20 @@ pub fn hint(rt: &HostRuntime, words: &[String]) {
 const BARE: &str =
     "there is no such file; with ./ in front one of this name is made; fallowtime help lists the commands";
 
-/// Says that a collection isn't there, and which of these is meant; nothing if it is one of them.
-pub fn hint_at_collection(rt: &HostRuntime, names: &[String], name: &str) {
-    if let Ok(Some(text)) = hint_at_name(rt.alloc(), names, name) {
-        note(rt, "", Ok(text));
+/// Says that a collection isn't there, and which of these is meant; nothing if it is one of them. Whether it said so.
+pub fn hint_at_collection(rt: &HostRuntime, names: &[String], name: &str) -> bool {
+    match hint_at_name(rt.alloc(), names, name) {
+        Ok(Some(text)) => {
+            note(rt, "", Ok(text));
+            true
+        }
+        _ => false,
     }
+}
+
+/// Says what helps if nothing answers a query.
+pub fn hint_at_query(rt: &HostRuntime, advice: &str) {
+    note(rt, advice, Ok(String::new(rt.alloc())));
 }
 
 /// What mostly helps after a refusal of this kind: by what packed the bytes of an import, or by the words behind the command.

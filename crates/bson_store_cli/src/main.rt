@@ -151,7 +151,7 @@ fn run_by_words(rt: &HostRuntime, words: &[String]) -> u8 {
     if status == MISUSE {
         help::hint(rt, words);
     } else {
-        fallowtime::point_at_collection(rt, words);
+        fallowtime::point_at_meant(rt, words);
     }
     status
 }

@@ -13,11 +13,13 @@ use Rattle.store_model.specs.Reading.{Documents, Reading}
 use Rattle.store_model.specs.State as model
 use Rattle.store_model.specs.Table.{DocumentTable, state_of}
 use Rattle.store_question.specs.Reads.{Form, form_of}
+use Rattle.store_update.specs.Plan.{Plan}
+use Rattle.store_update_read.specs.Outcome.{plans_of}
 use Rattle.bson_store.specs.Left.{Holds}
 use Rattle.bson_store.specs.Whole.{HoldsDone}
 use Rattle.bson_store.specs.declared.edit.Edit.{Edit}
 use Rattle.bson_store.specs.Shown.{Represents}
-use Rattle.fallowtime_commands.specs.Left.{LeavesIn, LeavesRequest, LeftByRequest, LeftIn, OfCall, OfPut, OfRequest, OfSet, OfStored, OfChange, OfFound, Unmoved, Ways, LeftByUpsert, OfUpsert}
+use Rattle.fallowtime_commands.specs.Left.{LeavesIn, LeavesRequest, LeftByRequest, LeftIn, OfCall, OfPut, OfRequest, OfSet, OfStored, OfAlter, OfChange, OfFound, Unmoved, Ways, LeftByUpsert, OfUpsert}
 use Rattle.fallowtime_requests.specs.declared.request.Otherwise.{Otherwise}
 use Rattle.fallowtime_requests.specs.declared.request.Otherwise.TheVariants as otherwise
 use Rattle.fallowtime_requests.specs.declared.request.Request.{Request}
@@ -57,6 +59,9 @@ module _ (Same More : Type 0) (same : Same → More) (Of Then : Ways → Type 0)
     ]
   ]) h
 
+  of_alter : (id : Value) (plans : List Plan) → OfAlter Same Of n r id plans → OfAlter More Then n r id plans
+  of_alter id plans h = goes _ (λ From Into Done Was Is each was a h. elim h [ inl refused ↦ inl (refused.0, was refused.1) | inr done ↦ inr done ]) h
+
   of_change : (form : Form) (w : Work) (many : Bool) → OfChange Same Of n r form w many → OfChange More Then n r form w many
   of_change form w many h = goes _ (λ From Into Done Was Is each was a h q reads. elim (h q reads) [ inl refused ↦ inl (refused.0, was refused.1) | inr done ↦ inr done ]) h
 
@@ -72,6 +77,7 @@ module _ (Same More : Type 0) (same : Same → More) (Of Then : Ways → Type 0)
   of_request (request.Replace d) h = of_stored (model.replace model.in_bytes) (content d) h
   of_request (request.Set id key v) h = of_set (view id) key.now (view v) h
   of_request (request.Unset id key) h = of_call (model.unset (view id) key.now) h
+  of_request (request.Alter id steps told) h = of_alter (view id) (plans_of steps) h
   of_request (request.Change q w many) h = of_change (form_of q) w many h
   of_request (request.FindAndChange q w k) h = of_found (form_of q) w k h
   of_request (request.Upsert q w many u) h = of_upsert (form_of q) w many u h

@@ -44,6 +44,7 @@ module _ (n : List ℕ) (s : State) (k : ErrorKind) where
   stays (request.Get id) (is, why) = absurd cc
   stays (request.Set id key v) (is, why) = absurd cc
   stays (request.Unset id key) (is, why) = absurd cc
+  stays (request.Alter id steps told) (is, why) = absurd cc
   stays (request.Change g w many) (is, why) = absurd cc
   stays (request.Upsert g w many (otherwise.Refuse e)) (is, why) = absurd cc
   stays (request.Remove id) (is, why) = absurd cc
@@ -65,6 +66,7 @@ module _ (n : List ℕ) (s : State) (k : ErrorKind) where
   leaves (request.Get id) (is, why) = absurd cc
   leaves (request.Set id key v) (is, why) = absurd cc
   leaves (request.Unset id key) (is, why) = absurd cc
+  leaves (request.Alter id steps told) (is, why) = absurd cc
   leaves (request.Change g w many) (is, why) = absurd cc
   leaves (request.Upsert g w many (otherwise.Refuse e)) (is, why) = absurd cc
   leaves (request.Remove id) (is, why) = absurd cc

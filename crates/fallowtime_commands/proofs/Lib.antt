@@ -1,4 +1,5 @@
 mod PrintLemmas
+mod AlterLemmas
 mod AskLemmas
 mod EarlyLemmas
 mod KeepLemmas

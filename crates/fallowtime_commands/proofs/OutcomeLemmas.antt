@@ -1,10 +1,12 @@
 -- The text of an id that was made before it is printed.
-use Rattle.std.proofs.Common.{◌≡◌, ◌∙◌, inl, inr, List, ℕ, Result, Ok, Err, IfOk, ap, subst, sym}
+use Rattle.std.proofs.Common.{◌≡◌, ◌∙◌, inl, inr, List, [], ◌∷◌, Bool, true, false, ℕ, Result, Ok, Err, IfOk, ap, subst, sym}
 use Rattle.bson_base.specs.Value.{Value}
 use Rattle.bson_json.specs.Prints.{IsTextOf}
 use Rattle.bson_model.specs.View.{view}
 use Rattle.bson_model.specs.declared.bson.Bson.{Bson}
 use Rattle.store_model.specs.declared.error.StoreError.{StoreError}
+use Rattle.bson_store.specs.declared.edit.Edit.{Edit}
+use Rattle.fallowtime_commands.specs.Altering.{altered_by}
 use Rattle.fallowtime_commands.specs.Finding.{IsFound}
 use Rattle.fallowtime_commands.specs.Performing.{IsAnswerTo, IsChange}
 use Rattle.fallowtime_commands.specs.Printing.{IsInsertText, IsOutcomeText, mode_of}
@@ -37,6 +39,16 @@ no_upsert_found (work.Update steps) v h = h
 no_upsert_found (work.Replace e) v h = h
 no_upsert_found work.Remove v h = h
 
+no_id_altered : (told : Bool) (v : Bson) (xs : List Edit) → answer.Id v ≡ altered_by told xs → ⊥
+no_id_altered false v xs is = absurd cc
+no_id_altered true v [] is = absurd cc
+no_id_altered true v (x ∷ xs) is = absurd cc
+
+no_upsert_altered : (told : Bool) (v : Bson) (xs : List Edit) → answer.Upserted v ≡ altered_by told xs → ⊥
+no_upsert_altered false v xs is = absurd cc
+no_upsert_altered true v [] is = absurd cc
+no_upsert_altered true v (x ∷ xs) is = absurd cc
+
 module _ (f : Form) (text : List ℕ) where
   abbrev IsOf : Bson → Type 0
   IsOf v = IsTextOf (mode_of f) (view v) text
@@ -51,6 +63,7 @@ module _ (f : Form) (text : List ℕ) where
   of_id (request.Get id) v h is = absurd is
   of_id (request.Set id key w) v h is = absurd cc
   of_id (request.Unset id key) v h is = absurd is
+  of_id (request.Alter id steps told) v h (xs, is) = absurd (no_id_altered told v xs is)
   of_id (request.Change q w many) v h is = absurd (no_id w v is)
   of_id (request.Upsert q w many (otherwise.Insert id d)) v h (inl is) = absurd (no_id w v is)
   of_id (request.Upsert q w many (otherwise.Insert id d)) v h (inr (own, is, means)) = absurd cc
@@ -74,6 +87,7 @@ module _ (f : Form) (text : List ℕ) where
   of_upserted (request.Get id) v h is = absurd is
   of_upserted (request.Set id key w) v h is = absurd cc
   of_upserted (request.Unset id key) v h is = absurd is
+  of_upserted (request.Alter id steps told) v h (xs, is) = absurd (no_upsert_altered told v xs is)
   of_upserted (request.Change q w many) v h is = absurd (no_upsert w v is)
   of_upserted (request.Upsert q w many (otherwise.Insert id d)) v h (inl is) = absurd (no_upsert w v is)
   of_upserted (request.Upsert q w many (otherwise.Insert id d)) v h (inr (own, is, means)) = same v own id (cc) means h

@@ -11,6 +11,8 @@ use Rattle.store_model.specs.Reading.{Documents, Reading, ReadsBytes, ReadsStrea
 use Rattle.store_model.specs.State as model
 use Rattle.store_model.specs.Table.{DocumentTable, IsRefusal, state_of}
 use Rattle.store_model.specs.declared.error.ErrorKind.{ErrorKind}
+use Rattle.store_update.specs.Plan.{Plan}
+use Rattle.store_update_read.specs.Outcome.{plans_of}
 use Rattle.store_question.specs.Asked.{Asked}
 use Rattle.store_question.specs.Reads.{Form, Reads, form_of}
 use Rattle.store_model.specs.declared.error.StoreError.{StoreError}
@@ -18,7 +20,7 @@ use Rattle.bson_store.specs.Left.{Along, Holds}
 use Rattle.bson_store.specs.Whole.{HoldsDone, LeavesWhole}
 use Rattle.bson_store.specs.declared.edit.Edit.{Edit}
 use Rattle.bson_store.specs.declared.edit.ListRefusal.{ListRefusal}
-use Rattle.fallowtime_commands.specs.Changing.{AreEdits, AreMeant, Becomes, listed}
+use Rattle.fallowtime_commands.specs.Changing.{AreEdits, AreMeant, Becomes, Renews, Updates, listed}
 use Rattle.fallowtime_commands.specs.Finding.{IsFirstFound}
 use Rattle.fallowtime_commands.specs.declared.answer.Answer.{Answer}
 use Rattle.fallowtime_commands.specs.Setting.{Gets}
@@ -69,6 +71,11 @@ module _ (Same : Type 0) (Of : Ways → Type 0) (n : List ℕ) (r : model.Reply)
       ⊎ ((IsRefusal r × Was)
       ⊎ ((d : Members) × (b : DocumentTable) × Gets n id a d b × ((x : Reading) × ReadsBytes (encode (put k v d)) x × From b (model.replace model.in_bytes x)))))
 
+  -- an update of the document with an id: no more than before, after a refusal; or the state at the end of its change
+  abbrev pub OfAlter : Value → List Plan → Type 0
+  OfAlter id plans = Of (λ From Done Was a.
+      (IsRefusal r × Was) ⊎ ((d : Members) × (b : DocumentTable) × (change : Option Edit) × Gets n id a d b × Renews n (Updates plans d) d change × Done b (listed change)))
+
   -- a change by query: no more than before, and never if it was accepted; or the state at the end of all changes
   abbrev pub OfChange : Form → Work → Bool → Type 0
   OfChange form w many = Of (λ From Done Was a.
@@ -96,6 +103,7 @@ module _ (Same : Type 0) (Of : Ways → Type 0) (n : List ℕ) (r : model.Reply)
   OfRequest (request.Replace d) = OfStored (model.replace model.in_bytes) (content d)
   OfRequest (request.Set id key v) = OfSet (view id) key.now (view v)
   OfRequest (request.Unset id key) = OfCall (model.unset (view id) key.now)
+  OfRequest (request.Alter id steps told) = OfAlter (view id) (plans_of steps)
   OfRequest (request.Change q w many) = OfChange (form_of q) w many
   OfRequest (request.FindAndChange q w k) = OfFound (form_of q) w k
   OfRequest (request.Upsert q w many u) = OfUpsert (form_of q) w many u
@@ -127,6 +135,9 @@ LeavesPut n e r old new = OfPut (Unmoved old new) (LeavesIn old new n r) n r e
 
 abbrev pub LeavesSet : List ℕ → Value → List ℕ → Value → model.Reply → State → State → Type 0
 LeavesSet n id k v r old new = OfSet (Unmoved old new) (LeavesIn old new n r) n r id k v
+
+abbrev pub LeavesAltered : List ℕ → Value → List Plan → model.Reply → State → State → Type 0
+LeavesAltered n id plans r old new = OfAlter (Unmoved old new) (LeavesIn old new n r) n r id plans
 
 abbrev pub LeavesChange : List ℕ → Form → Work → Bool → model.Reply → State → State → Type 0
 LeavesChange n form w many r old new = OfChange (Unmoved old new) (LeavesIn old new n r) n r form w many

@@ -1,3 +1,4 @@
+pub mod Altering
 pub mod Asking
 pub mod Changing
 pub mod Executing

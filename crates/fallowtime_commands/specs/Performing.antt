@@ -12,6 +12,7 @@ use Rattle.store_model.specs.declared.error.ErrorKind.{ErrorKind}
 use Rattle.store_model.specs.declared.error.ErrorKind.TheVariants.{BadKey, BadName, Memory}
 use Rattle.store_model.specs.declared.error.StoreError.{StoreError}
 use Rattle.store_question.specs.Reads.{form_of}
+use Rattle.store_update_read.specs.Outcome.{plans_of}
 use Rattle.bson_store.specs.Calls.{Does, HasIndex}
 use Rattle.bson_store.specs.Export.{bytes_of_each}
 use Rattle.bson_store.specs.Many.{DoesMany}
@@ -20,6 +21,7 @@ use Rattle.bson_store.specs.Refusals.{as_done, reply_by}
 use Rattle.bson_store.specs.declared.store.Store.{Store}
 use Rattle.fallowtime_commands.specs.declared.answer.Answer.{Answer}
 use Rattle.fallowtime_commands.specs.declared.answer.Answer.TheVariants as answer
+use Rattle.fallowtime_commands.specs.Altering.{Alters, IsAltered}
 use Rattle.fallowtime_commands.specs.Asking.{Counts, CountsAll, Differs, Finds}
 use Rattle.fallowtime_commands.specs.Finding.{FindsAndChanges, IsFound}
 use Rattle.fallowtime_commands.specs.Setting.{Sets}
@@ -107,6 +109,7 @@ IsAnswerTo (request.Replace d) a = a ≡ answer.Nothing
 IsAnswerTo (request.Get id) a = IsDocument a
 IsAnswerTo (request.Set id key v) a = a ≡ answer.Nothing
 IsAnswerTo (request.Unset id key) a = IsFlag a
+IsAnswerTo (request.Alter id steps told) a = IsAltered told a
 IsAnswerTo (request.Change q w many) a = IsChange w a
 IsAnswerTo (request.Upsert q w many u) a = IsUpsert w u a
 IsAnswerTo (request.Remove id) a = a ≡ answer.Nothing
@@ -150,6 +153,7 @@ Performs n (request.Replace d) o old new = Stores n (model.replace model.in_byte
 Performs n (request.Get id) o old new = Does (model.on n (model.get_raw (view id))) (reply_of o) old new
 Performs n (request.Set id key v) o old new = Sets n (view id) key.now (view v) (reply_of o) old new
 Performs n (request.Unset id key) o old new = Does (model.on n (model.unset (view id) key.now)) (reply_of o) old new
+Performs n (request.Alter id steps told) o old new = Alters n (view id) (plans_of steps) told o old new
 Performs n (request.Change q w many) o old new = ChangesFound n (form_of q) w many o old new
 Performs n (request.Upsert q w many u) o old new = UpsertsFound n (form_of q) w many u o (reply_of o) old new
 Performs n (request.Remove id) o old new = Does (model.on n (model.remove (view id))) (reply_of o) old new

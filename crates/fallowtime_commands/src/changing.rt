@@ -186,7 +186,7 @@ fn exchange(
 }
 
 /// The change of the document of a body, which is at the place `at`, to what the steps make of it.
-fn update_of_body(
+pub(crate) fn update_of_body(
     alloc: Global,
     name: &str,
     at: u64,

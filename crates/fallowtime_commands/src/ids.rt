@@ -51,6 +51,7 @@ fn id_in<'a>(request: &'a Request<'_>) -> Option<&'a Bson> {
         Request::Get(id) => Some(id),
         Request::Set(id, _, _) => Some(id),
         Request::Unset(id, _) => Some(id),
+        Request::Alter(id, _, _) => Some(id),
         Request::Remove(id) => Some(id),
         Request::Put(document) => document.get("_id"),
         Request::Replace(document) => document.get("_id"),

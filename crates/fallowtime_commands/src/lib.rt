@@ -2,6 +2,7 @@
 //! returns is printed.
 #![tactic(auto)]
 
+mod altering;
 mod answer;
 mod asking;
 mod changing;

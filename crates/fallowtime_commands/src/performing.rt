@@ -6,6 +6,7 @@ ghost use Rattle.bson_store.specs.Calls.{store_state, Relates};
 ghost use Rattle.fallowtime_commands.specs.Left.{LeavesRequest};
 ghost use Rattle.fallowtime_commands.specs.Performing.{Drops, IsAnswerTo, Performs, reply_of};
 
+use crate::altering::alter;
 use crate::answer::{Answer, document, documents, flag, inserted, names, nothing, number, values};
 use crate::asking::count;
 use crate::changing::change;
@@ -27,7 +28,7 @@ use std::mem::replace as take;
 ///
 /// Refused as that call is: for `Insert` and `Replace`, in this order, by BadName; TooDeep, Nul, NoId and TooLong; and
 /// then by DuplicateId and Places, or by NotFound; `Put` by neither DuplicateId nor NotFound; `Set` as `set`, whose
-/// value keeps the order of its keys; `Change` as `change`, `Upsert` as `upsert`, and `FindAndChange` as
+/// value keeps the order of its keys; `Alter` as `alter`, `Change` as `change`, `Upsert` as `upsert`, and `FindAndChange` as
 /// `find_and_change`; `Import` as `import_bytes`; `Index` and `DropIndex` as
 /// `index` and `drop_index`.
 pub fn perform<S: Alter + Drop>(
@@ -54,6 +55,9 @@ pub fn perform<S: Alter + Drop>(
             nothing(set(alloc, store, name, id, key, value))
         }
         Request::Unset(id, key) => flag(store.unset(name, id, key)),
+        Request::Alter(id, steps, told) => {
+            alter(alloc, store, name, id, steps.as_slice(), *told)
+        }
         Request::Change(question, work, many) => {
             change(alloc, store, name, question, work, *many)
         }

@@ -9,6 +9,7 @@ use Rattle.cli_convert.specs.declared.stop.Stop.{Stop as LineStop}
 use Rattle.fallowtime_commands.specs.Reports.{plain}
 use Rattle.fallowtime_commands.specs.declared.printing.Form.{Form}
 use Rattle.fallowtime_commands.specs.declared.printing.Form.TheVariants.{Lines, Bytes}
+use Rattle.fallowtime_requests.specs.Along.{AlongUnless, StopsUnless}
 use Rattle.fallowtime_requests.specs.Arranging.{IsOfWords, StopsWanted, WantsByWords}
 use Rattle.fallowtime_requests.specs.Inputs.{Given, texts}
 use Rattle.fallowtime_requests.specs.Reading.{KeepsMaker, Reads}
@@ -81,20 +82,21 @@ AsksToImport w old new before after result =
     (When (w.options.lines ≡ true) (AsksForLines (name_of w) old new before after result) (AsksForStream (name_of w) old new result × (after ≡ before)))
     ((result ≡ Err (refused BadName)) × (new ≡ old) × (after ≡ before))
 
--- what the options want can't be read; or it can, and an argument can't; or a change by query can, and not what it puts in
--- if no document answers
+-- what the options want can't be read; or it can, and an argument can't; or a path in the place of a key isn't one; or a change by
+-- query can be read, and not what it puts in if no document answers
 abbrev pub StopsAsking : Wording → IdMaker → IdMaker → Stop → Type 0
 StopsAsking w before after s =
     (StopsWanted w s × (after ≡ before))
     ⊎ ((((a : Wanted) × IsOfWords w a) × Reads before after w.command (given_of w) (Err s))
-    ⊎ ((mid : IdMaker) × (name : List ℕ) × (r : Request) × (l : Layout) × requests.Asks before mid w.command (given_of w) name r l × StopsByWords w r s))
+    ⊎ (((name : List ℕ) × (r : Request) × (l : Layout) × requests.Asks before after w.command (given_of w) name r l × StopsUnless w.options.literal r s)
+    ⊎ ((mid : IdMaker) × (name : List ℕ) × (r p : Request) × (l : Layout) × requests.Asks before mid w.command (given_of w) name r l × AlongUnless w.options.literal r p × StopsByWords w p s)))
 
 -- what the command with its words and its options asks for, by the ids of the maker, which is the one behind those that were
 -- taken
 abbrev pub AsksByWords : Wording → IdMaker → IdMaker → Result Asked Ended → Type 0
 AsksByWords w before after (Ok a) =
-    (mid : IdMaker) × (r u q : Request) × (l : Layout) × (a.request ≡ Some (requests.with_counts w.options.counts (requests.with_many w.options.many q))) × (a.lines.items ≡ [])
-    × requests.Asks before mid w.command (given_of w) a.collection.now r l × UpsertsByWords mid after w r u × WantsByWords w u q
+    (mid : IdMaker) × (r p u q : Request) × (l : Layout) × (a.request ≡ Some (requests.with_counts w.options.counts (requests.with_many w.options.many q))) × (a.lines.items ≡ [])
+    × requests.Asks before mid w.command (given_of w) a.collection.now r l × AlongUnless w.options.literal r p × UpsertsByWords mid after w p u × WantsByWords w u q
 AsksByWords w before after (Err e) =
     (e ≡ refused Memory) ⊎ ((s : Stop) × StopsAsking w before after s × (e ≡ ended_of_stop s) × KeepsMaker before after s)
 

@@ -9,9 +9,11 @@ use crate::ending::Ended;
 use bson_base::{ReadAllError, Source, read_all};
 use bson_model::extjson::Mode;
 use fallowtime_commands::{Form, Refusal};
-use fallowtime_requests::{Request, question_of_words, upsert_by_words, want, wanted_of_words};
+use fallowtime_requests::{
+    Question, Request, along_path, question_of_words, upsert_by_words, want, wanted_of_words,
+};
 use fallowtime_texts::{IdMaker, read_lines};
-use fallowtime_words::{Command, Options, Words};
+use fallowtime_words::{Argument, Command, Options, Words};
 use json::Scratch;
 use std::alloc::Global;
 use store_documents::Name;
@@ -135,7 +137,8 @@ fn ask_by_words<'w>(
     let wanted = wanted_of_words(alloc, words)?;
     let mut scratch = Scratch::new(alloc);
     let read = question_of_words(alloc, words.command, words.arguments, maker, &mut scratch)?;
-    let mut question = upsert_by_words(alloc, words, read, maker, &mut scratch)?;
+    let named = along_path(alloc, words.options.literal, read)?;
+    let mut question = upsert_by_words(alloc, words, named, maker, &mut scratch)?;
     want(&mut question, wanted);
     let options = words.options;
     let request = question
@@ -148,7 +151,8 @@ fn ask_by_words<'w>(
 /// What the words and the input ask for: only `import` reads the input, to its end.
 ///
 /// `Words` if the paths of `--fields` and `--without` can't name fields, or else if an argument can't be read, of the
-/// first one, or if, with `--upsert`, a query's equality fields can't be set beside each other. For `import`, `Refused`
+/// first one, if, without `--key`, the path of `set` or `unset` isn't one, or if, with `--upsert`, a query's equality
+/// fields can't be set beside each other. For `import`, `Refused`
 /// by BadName, by Reader if a read failed, and by Memory; `Lines` if a line of `import --json` can't be read. `Refused`
 /// by Memory if a growth was refused.
 pub fn asked_of<'w, I: Source>(
@@ -165,5 +169,31 @@ pub fn asked_of<'w, I: Source>(
         Command::Export => Ok(without_lines(alloc, collection_of(words), None)),
         Command::Import => import_of(alloc, words, maker, input),
         _ => ask_by_words(alloc, words, maker),
+    }
+}
+
+/// The collection and the query of a command that has both.
+fn selection_of<'w>(words: &Words<'w>) -> Option<&'w [String]> {
+    match words.command.signature().arguments {
+        [
+            Argument::Collection,
+            Argument::Query | Argument::Selection,
+            ..
+        ] => { words.arguments.get(..2) }
+        _ => None,
+    }
+}
+
+/// The query of a command, and the question how many documents answer it; none if the command has no query, or one that
+/// can't be read.
+pub fn count_of<'w>(alloc: Global, words: &Words<'w>) -> Option<(&'w str, Question<'w>)> {
+    let given = selection_of(words)?;
+    let (_, behind) = given.split_first()?;
+    let (query, _) = behind.split_first()?;
+    let mut maker = IdMaker::new(0, 0);
+    let mut scratch = Scratch::new(alloc);
+    match question_of_words(alloc, Command::Count, given, &mut maker, &mut scratch) {
+        Ok(question) => Some((query.as_str(), question)),
+        Err(_) => None,
     }
 }

@@ -58,6 +58,8 @@ impl Ended {
             Ended::Words(Unread::Id(_)) => "id",
             Ended::Words(Unread::Query(_) | Unread::Equalities(_)) => "query",
             Ended::Words(Unread::Update(_)) => "update",
+            Ended::Words(Unread::Options) => "options",
+            Ended::Words(Unread::Fields) => "fields",
             Ended::Words(_) => "usage",
             Ended::Lines(LineStop::Line(_, _)) => "line",
             Ended::Refused(refusal) => refusal.name(),

@@ -6,6 +6,6 @@ mod asking;
 mod ending;
 mod words;
 
-pub use asking::{Asked, asked_of, form_of};
+pub use asking::{Asked, asked_of, count_of, form_of};
 pub use ending::{Ended, ended_of, tell};
 pub use words::{Program, copy_of, patience_of, program_of, words_of};

@@ -19,8 +19,12 @@ const NOT_FOUND: &str = "NotFound";
 /// What helps if an ID that is a text looks like an ObjectId.
 pub(crate) const OBJECT_ID: &str = "this ID is a text; an ObjectId is written '{\"$oid\":\"..\"}'";
 
+/// What helps if a query asks for a text that looks like an ObjectId.
+const OBJECT_ID_ASKED: &str =
+    "nothing is found, and QUERY asks for a text of 24 digits; an ObjectId is written {\"$oid\":\"..\"}";
+
 /// What helps after the commonest refusals; those of a FILE that can't be had say it themselves.
-pub(crate) const ADVICE: [Advice; 13] = [
+pub(crate) const ADVICE: [Advice; 15] = [
     Advice {
         kind: NOT_FOUND,
         text: "an ID is 42 for the number and '\"42\"' for the text; fallowtime FILE find COLL shows those that there are",
@@ -67,7 +71,15 @@ pub(crate) const ADVICE: [Advice; 13] = [
     },
     Advice {
         kind: "update",
-        text: "an update is an object of operators, '{\"$set\":{\"to.city\":\"Ulm\"}}', at keys with dots between them",
+        text: "an update is an object of operators, '{\"$set\":{\"to.city\":\"Ulm\"}}', at keys with dots between them; set and unset with --key take their PATH as one key",
+    },
+    Advice {
+        kind: "options",
+        text: "a path of --sort, --fields or --without is keys with dots between them, and paths have commas between them: --sort price:-1,to.city --fields price,to.city",
+    },
+    Advice {
+        kind: "fields",
+        text: "paths are keys with dots between them: none is empty, begins with $ or leads into another one, and beside --fields only the _id is left out",
     },
     Advice {
         kind: "ReservedKey",
@@ -168,4 +180,19 @@ pub fn advice_for(kind: &str, words: &[String]) -> Option<&'static str>
         return advice_on_id(words);
     }
     advice_by_words(kind, words)
+}
+
+/// What helps if no document answers a query, in a line: if it asks for a text, in quotes, that has the digits of an
+/// ObjectId and isn't under `$oid`.
+pub fn advice_on_query(query: &str) -> Option<&'static str> {
+    let mut under = "";
+    let mut front = "";
+    for piece in query.split('"') {
+        if is_object_id(piece) && under != "$oid" {
+            return Some(OBJECT_ID_ASKED);
+        }
+        under = front;
+        front = piece;
+    }
+    None
 }

@@ -5,6 +5,7 @@
 #[derive(Clone, Copy)]
 pub(crate) enum Item {
     Usage,
+    Options,
     Argument,
     Id,
     Filter,
@@ -64,10 +65,18 @@ pub(crate) struct Kind {
 }
 
 /// The kinds, in the order of the page.
-pub(crate) const KINDS: [Kind; 55] = [
+pub(crate) const KINDS: [Kind; 57] = [
     Kind {
         name: "usage",
         items: &[Item::Usage],
+    },
+    Kind {
+        name: "options",
+        items: &[Item::Options],
+    },
+    Kind {
+        name: "fields",
+        items: &[Item::Options],
     },
     Kind {
         name: "JSON",
@@ -287,6 +296,12 @@ pub(crate) const KINDS: [Kind; 55] = [
     },
 ];
 
+const OPTIONS: &str =
+    "  `words: options`, `words: fields`: a path of `--sort`, `--fields` or `--without` is likely to mean something else, as
+  `-price` is or one with a space in it; or, `fields`, these paths can't name fields: a key is empty or begins with `$`,
+  one path leads into another, or beside kept fields others than the `_id` are left out.
+";
+
 const USAGE: &str =
     "  `words: usage`: there is no such command, it has too few or too many places, an option that it doesn't have, or one
   twice, or FILE begins with `-`, which is written `./-x.db`. Options come last. `fallowtime COMMAND --help` says what a
@@ -499,13 +514,14 @@ const QUERY: &str =
 const UPDATE: &str =
     "  `words: update`: UPDATE is no update of the language, for the reason that follows: it is no JSON from a byte on, or no
   object, a key comes twice, there is no operator of that name (`$currentDate` isn't taken here, as no date is at hand:
-  `$set` one), an operator has no object of paths, or an operator isn't made at a path.
+  `$set` one), an operator has no object of paths, or an operator isn't made at a path. Or the PATH of `set` or `unset`
+  isn't one of `$set` or `$unset`: with `--key` it is one key, with its dots.
 ";
 
 const THROUGH: &str =
-    "  `Through`: of `update`: a path leads through a value that is no document, such as `a.b` where `a` is a number or an
-  array. N counts the documents that `find COLL QUERY` prints; without it the document is that of `--upsert`. Nothing
-  was changed, as after each of the next five.
+    "  `Through`: of `update`, `set` and `unset`: a path leads through a value that is no document, such as `a.b` where `a`
+  is a number or an array. N counts the documents that `find COLL QUERY` prints, and is 0 of `set` and `unset`; without
+  it the document is that of `--upsert`. Nothing was changed, as after each of the next five.
 ";
 
 const NOT_A_NUMBER: &str = "  `NotANumber`: `$inc` or `$mul` of a value that is no number.
@@ -565,6 +581,7 @@ fn text_of_further(item: Item) -> &'static str {
 pub(crate) fn text_of(item: Item) -> &'static str {
     match item {
         Item::Usage => USAGE,
+        Item::Options => OPTIONS,
         Item::Argument => ARGUMENT,
         Item::Id => ID,
         Item::Filter => FILTER,

@@ -14,7 +14,7 @@ mod texts;
 mod topic;
 mod usage;
 
-pub use advice::advice_for;
+pub use advice::{advice_for, advice_on_query};
 pub use explaining::kind_names;
 pub use help::about;
 pub use hint::hint_of;

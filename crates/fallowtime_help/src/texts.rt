@@ -37,6 +37,7 @@ Options come last, in any order:
                    delete)
   --upsert         puts a document in if none is selected (update, replace-one)
   --count          how many documents have each value (distinct)
+  --key            takes PATH as one key, also with dots (set, unset)
   --sort KEYS, --skip N, --limit N
                    an order of documents, and a part of them (find, find-and-..)
   --fields PATHS, --without PATHS
@@ -129,29 +130,35 @@ May be refused: NotFound, NoFile, BadName, ReservedKey; words: id.
 ";
 
 const SET: &str = "
-Gives a key of the document with this _id a value: in the place of the one that
-it has, or last. KEY is a key at the top of the document, as it is. VALUE is
-Extended JSON, so a text has quotes of its own inside those of the shell.
+Puts VALUE at PATH of the document with this _id: in the place of the value that
+is there, or last. PATH is a key, or keys with dots between them, such as
+to.city, as those of $set of update: documents that aren't there yet are made.
+VALUE is Extended JSON, so a text has quotes of its own inside those of the
+shell.
 
+  --key            takes PATH as one key of the document, with its dots
   --wait SECONDS   waits so long if another process has FILE; else 5
 
     fallowtime shop.db set orders 1 status '\"paid\"'
-    fallowtime shop.db set orders A-4 price 2.5
+    fallowtime shop.db set orders A-4 to.city '\"Ulm\"'
 
-May be refused: NotFound, NoFile, BadName, BadKey, TooDeep, TooLong, Nul;
-words: id, words: JSON.
+May be refused: NotFound, NoFile, BadName, BadKey, Through, TooDeep, TooLong,
+Nul; words: id, words: JSON, words: update.
 ";
 
 const UNSET: &str = "
-Takes a key away from the document with this _id, and prints `true` if it was
-there, else `false`. KEY is a key at the top of the document, as it is.
+Takes the value at PATH away from the document with this _id, and prints `true`
+if one was there, else `false`. PATH is a key, or keys with dots between them,
+such as to.city, as those of $unset of update.
 
+  --key            takes PATH as one key of the document, with its dots
   --wait SECONDS   waits so long if another process has FILE; else 5
 
     fallowtime shop.db unset orders 1 status
-    fallowtime shop.db unset orders '\"42\"' note
+    fallowtime shop.db unset orders A-4 to.city
 
-May be refused: NotFound, NoFile, BadName, BadKey; words: id.
+May be refused: NotFound, NoFile, BadName, BadKey, Through; words: id, words:
+update.
 ";
 
 const UPDATE: &str = "

@@ -14,14 +14,13 @@ fn text_of(argument: Argument) -> &'static str
         Argument::Collection => " COLL",
         Argument::Document => " DOC",
         Argument::Id => " ID",
-        Argument::Key => " KEY",
         Argument::Value => " VALUE",
         Argument::Query => " [QUERY]",
         Argument::Selection => " QUERY",
         Argument::Update => " UPDATE",
         Argument::Options => "",
         Argument::Documents => " [INPUT]",
-        Argument::IndexPath | Argument::File => " PATH",
+        Argument::Key | Argument::IndexPath | Argument::File => " PATH",
         Argument::Folder => " DIR",
     }
 }
@@ -48,6 +47,8 @@ fn options_of(allowed: Allowed) -> &'static str
         " [--many]"
     } else if allowed.upsert {
         " [--upsert]"
+    } else if allowed.literal {
+        " [--key]"
     } else if allowed.arranged || allowed.counts {
         " [--OPTION ..]"
     } else if allowed.canonical && allowed.bytes {

@@ -11,12 +11,11 @@ use Rattle.fallowtime_words.specs.declared.command.Command.{Command}
 use Rattle.fallowtime_words.specs.declared.command.Command.TheVariants.{Insert, Put, Replace, Get, Set, Unset, Update, ReplaceOne, Delete, FindAndUpdate, FindAndReplace, FindAndDelete, Remove, Find, Count, Distinct, Import, Export, Collections, Check, Backup, Index, DropIndex, Version, ImportAll, ExportAll, Edit}
 use Rattle.fallowtime_words.specs.declared.table.Argument.{Argument}
 use Rattle.fallowtime_requests.specs.Inputs.{Given, seen, texts, tree, trees, word}
-use Rattle.fallowtime_requests.specs.Reading.{AsMany, Reads}
+use Rattle.fallowtime_requests.specs.Reading.{AsMany, Reads, beyond}
 use Rattle.fallowtime_requests.specs.declared.input.Input.{Input}
 use Rattle.fallowtime_requests.specs.declared.reading.Question.{Question}
 use Rattle.fallowtime_requests.specs.declared.stop.Stop.{Stop}
 use Rattle.fallowtime_requests.specs.declared.stop.Stop.TheVariants.{Words}
-use Rattle.fallowtime_requests.specs.declared.unread.Unread.TheVariants as unread
 
 abbrev pub of_text : String Global → Given
 of_text w = word (string_bytes w)
@@ -129,7 +128,7 @@ not_as_many c gs more all =
     let four : length (arguments c) ≤ 4 = few c in
     omega (arith, more, most, four)
 
-too_many : (m : IdMaker) (c : Command) (gs : List Given) → 4 < length gs → Reads m m c gs (Err (Words unread.Command))
+too_many : (m : IdMaker) (c : Command) (gs : List Given) → 4 < length gs → Reads m m c gs (Err (Words (beyond c)))
 too_many m Backup gs more = refl
 too_many m Version gs more = refl
 too_many m ImportAll gs more = refl
@@ -158,10 +157,10 @@ too_many m Check gs more = inl (not_as_many Check gs more, refl)
 too_many m Index gs more = inl (not_as_many Index gs more, refl)
 too_many m DropIndex gs more = inl (not_as_many DropIndex gs more, refl)
 
-pub too_many_texts : (m : IdMaker) (c : Command) (ws : List (String Global)) → 4 < length ws → Reads m m c (texts ws) (Err (Words unread.Command))
+pub too_many_texts : (m : IdMaker) (c : Command) (ws : List (String Global)) → 4 < length ws → Reads m m c (texts ws) (Err (Words (beyond c)))
 too_many_texts m c ws more = too_many m c (texts ws) (subst (λ n. 4 < n) (sym (length-map ws of_text)) more)
 
-pub too_many_trees : (m : IdMaker) (c : Command) (ts : List (Tree Global)) → 4 < length ts → Reads m m c (trees (items_view ts)) (Err (Words unread.Command))
+pub too_many_trees : (m : IdMaker) (c : Command) (ts : List (Tree Global)) → 4 < length ts → Reads m m c (trees (items_view ts)) (Err (Words (beyond c)))
 too_many_trees m c ts more =
     let all : length (trees (items_view ts)) ≡ length ts = ap (λ (gs : List Given). length gs) (sym (trees_seen ts)) ∙ length-map ts of_tree in
     too_many m c (trees (items_view ts)) (subst (λ n. 4 < n) (sym all) more)

@@ -1,7 +1,9 @@
+mod AlongLemmas
 mod AskLemmas
 mod CountLemmas
 mod FirstLemmas
 mod InputLemmas
+mod KeyLemmas
 mod LineLemmas
 mod OptionLemmas
 mod ArrangeLemmas

@@ -1,10 +1,7 @@
--- What the values of a line ask for, by its command, and the options of `distinct`.
-use Rattle.std.proofs.Common.{◌≡◌, ◌≢◌, ◌≤◌, Bool, true, false, ℕ, List, [], ◌∷◌, Option, None, Vec, Result, Ok, Err, length, refl, ap, sym, ◌∙◌, subst, arith}
-use Rattle.std.specs.declared.alloc.Global.{Global}
+-- What the values of a line ask for, by its command.
+use Rattle.std.proofs.Common.{◌≡◌, ◌≢◌, true, false, ℕ, List, Result, Ok, Err, refl, sym, subst}
 use Rattle.json.specs.Json.{Items}
-use Rattle.json.specs.Value.{members_view, value_view}
-use Rattle.json.specs.declared.value.Value.{Value as Tree, Object}
-use Rattle.fallowtime_requests.specs.Arranging.{ReadsByOptions, ReadsLine, ReadsThree, ReadsTwo, counts_among, counts_of}
+use Rattle.fallowtime_requests.specs.Arranging.{ReadsByOptions, ReadsLine, ReadsThree, ReadsTwo}
 use Rattle.fallowtime_requests.specs.Inputs.{Given, trees}
 use Rattle.fallowtime_requests.specs.Reading.{Reads}
 use Rattle.fallowtime_requests.specs.Requests.{Asks}
@@ -17,18 +14,6 @@ use Rattle.fallowtime_requests.specs.declared.stop.Stop.{Stop}
 use Rattle.fallowtime_texts.specs.declared.made.IdMaker.{IdMaker}
 use Rattle.fallowtime_words.specs.declared.command.Command.{Command}
 use Rattle.fallowtime_words.specs.declared.command.Command.TheVariants as command
-use Rattle.fallowtime_requests.proofs.OptionLemmas.{Entry, object_seen}
-
--- ---- the options of `distinct`
-
--- several members are no options
-pub several_counts : (ms : List Entry) → 2 ≤ length ms → None ≡ counts_among (members_view ms)
-several_counts [] two = absurd (omega (arith, two))
-several_counts (m ∷ []) two = absurd (omega (arith, two))
-several_counts (m ∷ n ∷ ms) two = refl
-
-pub counts_of_object : (v : Tree Global) (ms : Vec Entry Global) (shown : List Entry) (found : Option Bool) → v ≡ Object ms → shown ≡ ms.items → found ≡ counts_among (members_view shown) → found ≡ counts_of (value_view v)
-counts_of_object v ms shown found is all h = h ∙ ap (λ j. counts_of j) (sym (object_seen v ms shown is all))
 
 -- ---- a line, by its command
 
@@ -57,37 +42,42 @@ module _ (m n : IdMaker) (c : Command) (js : Items) where
   line_of_replacement (Ok q) is h = subst (λ k. ReadsLine m n k js (Ok q)) (sym is) h
   line_of_replacement (Err s) is h = subst (λ k. ReadsLine m n k js (Err s)) (sym is) h
 
-  pub line_of_distinct : (r : Result Question Stop) → c ≡ command.Distinct → ReadsLine m n command.Distinct js r → ReadsLine m n c js r
-  line_of_distinct r is h = subst (λ k. ReadsLine m n k js r) (sym is) h
+  -- what is said of a command by itself
+  pub line_of : (k : Command) (r : Result Question Stop) → c ≡ k → ReadsLine m n k js r → ReadsLine m n c js r
+  line_of k r is h = subst (λ k. ReadsLine m n k js r) (sym is) h
 
 -- a command whose options are none of a line
 module _ (m n : IdMaker) (js : Items) where
-  other_asks : (c : Command) (q : Question) → c ≢ command.Find → c ≢ command.FindAndUpdate → c ≢ command.FindAndReplace → c ≢ command.FindAndDelete → c ≢ command.Update → c ≢ command.ReplaceOne → c ≢ command.Distinct
+  other_asks : (c : Command) (q : Question) → c ≢ command.Find → c ≢ command.FindAndUpdate → c ≢ command.FindAndReplace → c ≢ command.FindAndDelete → c ≢ command.Update → c ≢ command.ReplaceOne → c ≢ command.Distinct → c ≢ command.Set → c ≢ command.Unset
       → Reads m n c (trees js) (Ok q) → ReadsLine m n c js (Ok q)
-  other_asks command.Find q a b d e f g i h = absurd (a refl)
-  other_asks command.FindAndUpdate q a b d e f g i h = absurd (b refl)
-  other_asks command.FindAndReplace q a b d e f g i h = absurd (d refl)
-  other_asks command.FindAndDelete q a b d e f g i h = absurd (e refl)
-  other_asks command.Update q a b d e f g i h = absurd (f refl)
-  other_asks command.ReplaceOne q a b d e f g i h = absurd (g refl)
-  other_asks command.Distinct q a b d e f g i h = absurd (i refl)
-  other_asks c q a b d e f g i h = h
+  other_asks command.Find q a b d e f g i j k h = absurd (a refl)
+  other_asks command.FindAndUpdate q a b d e f g i j k h = absurd (b refl)
+  other_asks command.FindAndReplace q a b d e f g i j k h = absurd (d refl)
+  other_asks command.FindAndDelete q a b d e f g i j k h = absurd (e refl)
+  other_asks command.Update q a b d e f g i j k h = absurd (f refl)
+  other_asks command.ReplaceOne q a b d e f g i j k h = absurd (g refl)
+  other_asks command.Distinct q a b d e f g i j k h = absurd (i refl)
+  other_asks command.Set q a b d e f g i j k h = absurd (j refl)
+  other_asks command.Unset q a b d e f g i j k h = absurd (k refl)
+  other_asks c q a b d e f g i j k h = h
 
-  other_stops : (c : Command) (s : Stop) → c ≢ command.Find → c ≢ command.FindAndUpdate → c ≢ command.FindAndReplace → c ≢ command.FindAndDelete → c ≢ command.Update → c ≢ command.ReplaceOne → c ≢ command.Distinct
+  other_stops : (c : Command) (s : Stop) → c ≢ command.Find → c ≢ command.FindAndUpdate → c ≢ command.FindAndReplace → c ≢ command.FindAndDelete → c ≢ command.Update → c ≢ command.ReplaceOne → c ≢ command.Distinct → c ≢ command.Set → c ≢ command.Unset
       → Reads m n c (trees js) (Err s) → ReadsLine m n c js (Err s)
-  other_stops command.Find s a b d e f g i h = absurd (a refl)
-  other_stops command.FindAndUpdate s a b d e f g i h = absurd (b refl)
-  other_stops command.FindAndReplace s a b d e f g i h = absurd (d refl)
-  other_stops command.FindAndDelete s a b d e f g i h = absurd (e refl)
-  other_stops command.Update s a b d e f g i h = absurd (f refl)
-  other_stops command.ReplaceOne s a b d e f g i h = absurd (g refl)
-  other_stops command.Distinct s a b d e f g i h = absurd (i refl)
-  other_stops c s a b d e f g i h = h
+  other_stops command.Find s a b d e f g i j k h = absurd (a refl)
+  other_stops command.FindAndUpdate s a b d e f g i j k h = absurd (b refl)
+  other_stops command.FindAndReplace s a b d e f g i j k h = absurd (d refl)
+  other_stops command.FindAndDelete s a b d e f g i j k h = absurd (e refl)
+  other_stops command.Update s a b d e f g i j k h = absurd (f refl)
+  other_stops command.ReplaceOne s a b d e f g i j k h = absurd (g refl)
+  other_stops command.Distinct s a b d e f g i j k h = absurd (i refl)
+  other_stops command.Set s a b d e f g i j k h = absurd (j refl)
+  other_stops command.Unset s a b d e f g i j k h = absurd (k refl)
+  other_stops c s a b d e f g i j k h = h
 
   pub line_of_other : (c : Command) (r : Result Question Stop) → c ≢ command.Find → c ≢ command.FindAndUpdate → c ≢ command.FindAndReplace → c ≢ command.FindAndDelete → c ≢ command.Update → c ≢ command.ReplaceOne
-      → c ≢ command.Distinct → Reads m n c (trees js) r → ReadsLine m n c js r
-  line_of_other c (Ok q) a b d e f g i h = other_asks c q a b d e f g i h
-  line_of_other c (Err s) a b d e f g i h = other_stops c s a b d e f g i h
+      → c ≢ command.Distinct → c ≢ command.Set → c ≢ command.Unset → Reads m n c (trees js) r → ReadsLine m n c js r
+  line_of_other c (Ok q) a b d e f g i j k h = other_asks c q a b d e f g i j k h
+  line_of_other c (Err s) a b d e f g i j k h = other_stops c s a b d e f g i j k h
 
 -- changes by query take no id of the maker
 pub by_change : (m n : IdMaker) (gs : List Given) (name : List ℕ) (r : Request) (l : Layout) → Asks m n command.Update gs name r l → n ≡ m
@@ -97,3 +87,12 @@ by_change m n gs name _ l h = absurd h
 pub by_exchange : (m n : IdMaker) (gs : List Given) (name : List ℕ) (r : Request) (l : Layout) → Asks m n command.ReplaceOne gs name r l → n ≡ m
 by_exchange m n gs name (request.Change q (work.Replace d) many) l h = h.2
 by_exchange m n gs name _ l h = absurd h
+
+-- nor do those with a key
+pub by_set : (m n : IdMaker) (gs : List Given) (name : List ℕ) (r : Request) (l : Layout) → Asks m n command.Set gs name r l → n ≡ m
+by_set m n gs name (request.Set id key v) l h = h.1
+by_set m n gs name _ l h = absurd h
+
+pub by_unset : (m n : IdMaker) (gs : List Given) (name : List ℕ) (r : Request) (l : Layout) → Asks m n command.Unset gs name r l → n ≡ m
+by_unset m n gs name (request.Unset id key) l h = h.1
+by_unset m n gs name _ l h = absurd h

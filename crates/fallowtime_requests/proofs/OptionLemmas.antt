@@ -4,19 +4,19 @@ use Rattle.std.specs.declared.alloc.Global.{Global}
 use Rattle.json.specs.Json.{object}
 use Rattle.json.specs.Value.{members_view, value_view}
 use Rattle.json.specs.declared.value.Value.{Value as Tree, Object, the_lemmas}
-use Rattle.fallowtime_requests.specs.Inputs.{many_among, many_of, tree}
+use Rattle.fallowtime_requests.specs.Inputs.{flag_among, flag_of}
 
 abbrev pub Entry : Type 0
 Entry = Bor (List ℕ) × Tree Global
 
 -- several members are no options
-pub several : (ms : List Entry) → 2 ≤ length ms → None ≡ many_among (members_view ms)
-several [] two = absurd (omega (arith, two))
-several (m ∷ []) two = absurd (omega (arith, two))
-several (m ∷ n ∷ ms) two = refl
+pub several : (name : List ℕ) (ms : List Entry) → 2 ≤ length ms → None ≡ flag_among name (members_view ms)
+several name [] two = absurd (omega (arith, two))
+several name (m ∷ []) two = absurd (omega (arith, two))
+several name (m ∷ n ∷ ms) two = refl
 
 pub object_seen : (v : Tree Global) (ms : Vec Entry Global) (shown : List Entry) → v ≡ Object ms → shown ≡ ms.items → value_view v ≡ object (members_view shown)
 object_seen v ms shown h k = rw (h, k) (search (rules, the_lemmas))
 
-pub of_object : (v : Tree Global) (ms : Vec Entry Global) (shown : List Entry) (found : Option Bool) → v ≡ Object ms → shown ≡ ms.items → found ≡ many_among (members_view shown) → found ≡ many_of (tree (value_view v))
-of_object v ms shown found is all h = h ∙ ap (λ j. many_of (tree j)) (sym (object_seen v ms shown is all))
+pub of_object : (name : List ℕ) (v : Tree Global) (ms : Vec Entry Global) (shown : List Entry) (found : Option Bool) → v ≡ Object ms → shown ≡ ms.items → found ≡ flag_among name (members_view shown) → found ≡ flag_of name (value_view v)
+of_object name v ms shown found is all h = h ∙ ap (λ j. flag_of name j) (sym (object_seen v ms shown is all))

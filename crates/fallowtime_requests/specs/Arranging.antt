@@ -17,7 +17,8 @@ use Rattle.store_sorted.specs.Texts.{ReadsKeys, key_by}
 use Rattle.store_sorted.specs.declared.arrangement.Arrangement.{Arrangement}
 use Rattle.fallowtime_words.specs.declared.words.Words.{Words as Wording}
 use Rattle.fallowtime_requests.specs.Fields.{CanName, IsOfTexts, Marked, TextsNameNone, left_by, left_where, marked_under, paths_given}
-use Rattle.fallowtime_requests.specs.Inputs.{Given, boolean_of, tree, trees}
+use Rattle.fallowtime_requests.specs.Along.{AlongUnless, StopsUnless, literal_in}
+use Rattle.fallowtime_requests.specs.Inputs.{Given, boolean_of, flag_of, tree, trees}
 use Rattle.fallowtime_requests.specs.Plain.{are_plainly, have_plain_paths}
 use Rattle.fallowtime_requests.specs.Reading.{Reads}
 use Rattle.fallowtime_requests.specs.Requests.{Asks, with_counts, with_many}
@@ -221,21 +222,26 @@ ReadsByOptions several m n c js (Ok q) = AsksByOptions several m n c js q.collec
 ReadsByOptions several m n c js (Err s) = StopsByOptions several m n c js s
 
 -- the options of `distinct`: none, or whether the documents that have a value are counted
-abbrev pub counts_among : Members → Option Bool
-counts_among no_members = Some false
-counts_among (member key j no_members) = if bytes_eq key (codes "count") then boolean_of j else None
-counts_among _ = None
-
 abbrev pub counts_of : Json → Option Bool
-counts_of (json.object ms) = counts_among ms
-counts_of j = None
+counts_of o = flag_of (codes "count") o
 
 -- the request that `distinct` makes of a collection, a path and a query, with what the options say
 abbrev pub AsksCounted : IdMaker → IdMaker → Items → Json → List ℕ → Request → Layout → Type 0
 AsksCounted m n js o name q l = (r : Request) × (counts : Bool) × Asks m n command.Distinct (trees js) name r l × (counts_of o ≡ Some counts) × (q ≡ with_counts counts r)
 
--- what a command with the values of a line asks for: those that find documents have options behind their arguments, and a change by query
--- and `distinct` have them as a fourth one
+-- the request that a command with a key makes of its arguments, where a path may stand in the place of the key
+abbrev pub AsksKeyed : IdMaker → IdMaker → Command → Items → Option Json → List ℕ → Request → Layout → Type 0
+AsksKeyed m n c js o name q l = (was : Request) × (literal : Bool) × Asks m n c (trees js) name was l × (literal_in o ≡ Some literal) × AlongUnless literal was q
+
+-- its arguments can't be read, or its options, or the path isn't one
+abbrev pub StopsKeyed : IdMaker → IdMaker → Command → Items → Option Json → Stop → Type 0
+StopsKeyed m n c js o s =
+    Reads m n c (trees js) (Err s)
+    ⊎ (StopsOptions (literal_in o ≡ None) s
+    ⊎ ((name : List ℕ) × (was : Request) × (l : Layout) × (literal : Bool) × Asks m n c (trees js) name was l × (literal_in o ≡ Some literal) × StopsUnless literal was s))
+
+-- what a command with the values of a line asks for: those that find documents, and those with a key, have options behind their arguments,
+-- and a change by query and `distinct` have them as a fourth one
 abbrev pub AsksLine : IdMaker → IdMaker → Command → Items → List ℕ → Request → Layout → Type 0
 AsksLine m n command.Find js name r l = AsksTwo m n command.Find js name r l
 AsksLine m n command.FindAndUpdate js name r l = AsksThree m n command.FindAndUpdate js name r l
@@ -244,6 +250,10 @@ AsksLine m n command.FindAndDelete js name r l = AsksTwo m n command.FindAndDele
 AsksLine m n command.Update js name r l = AsksByOptions true m n command.Update js name r l
 AsksLine m n command.ReplaceOne js name r l = AsksByOptions false m n command.ReplaceOne js name r l
 AsksLine m n command.Distinct (item c (item p (item q (item o no_items)))) name r l = AsksCounted m n (item c (item p (item q no_items))) o name r l
+AsksLine m n command.Set (item a (item b (item k (item v (item o no_items))))) name r l = AsksKeyed m n command.Set (item a (item b (item k (item v no_items)))) (Some o) name r l
+AsksLine m n command.Set js name r l = AsksKeyed m n command.Set js None name r l
+AsksLine m n command.Unset (item a (item b (item k (item o no_items)))) name r l = AsksKeyed m n command.Unset (item a (item b (item k no_items))) (Some o) name r l
+AsksLine m n command.Unset js name r l = AsksKeyed m n command.Unset js None name r l
 AsksLine m n c js name r l = Asks m n c (trees js) name r l
 
 -- or why it asks for nothing
@@ -255,6 +265,10 @@ StopsLine m n command.FindAndDelete js s = StopsTwo m n command.FindAndDelete js
 StopsLine m n command.Update js s = StopsByOptions true m n command.Update js s
 StopsLine m n command.ReplaceOne js s = StopsByOptions false m n command.ReplaceOne js s
 StopsLine m n command.Distinct (item c (item p (item q (item o no_items)))) s = Reads m n command.Distinct (tree c ∷ tree p ∷ tree q ∷ []) (Err s) ⊎ StopsOptions (counts_of o ≡ None) s
+StopsLine m n command.Set (item a (item b (item k (item v (item o no_items))))) s = StopsKeyed m n command.Set (item a (item b (item k (item v no_items)))) (Some o) s
+StopsLine m n command.Set js s = StopsKeyed m n command.Set js None s
+StopsLine m n command.Unset (item a (item b (item k (item o no_items)))) s = StopsKeyed m n command.Unset (item a (item b (item k no_items))) (Some o) s
+StopsLine m n command.Unset js s = StopsKeyed m n command.Unset js None s
 StopsLine m n c js s = Reads m n c (trees js) (Err s)
 
 abbrev pub ReadsLine : IdMaker → IdMaker → Command → Items → Result Question Stop → Type 0

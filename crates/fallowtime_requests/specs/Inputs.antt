@@ -67,18 +67,23 @@ IsAsked g a = (j : Json) × HasQuery g j × (query j ≡ Ok a)
 abbrev pub IsUpdate : Given → List Plan → Type 0
 IsUpdate g plans = (j : Json) × HasQuery g j × (undated j ≡ Ok plans)
 
--- the options of an update: none, or whether all documents are meant
+-- options of which there is one, that is true or false: whether it is given as true; and that of an update, whether all documents are
+-- meant
 abbrev pub boolean_of : Json → Option Bool
 boolean_of (json.boolean is) = Some is
 boolean_of _ = None
 
-abbrev pub many_among : Pairs → Option Bool
-many_among no_members = Some false
-many_among (member key j no_members) = if bytes_eq key (codes "many") then boolean_of j else None
-many_among _ = None
+abbrev pub flag_among : List ℕ → Pairs → Option Bool
+flag_among name no_members = Some false
+flag_among name (member key j no_members) = if bytes_eq key name then boolean_of j else None
+flag_among name _ = None
+
+abbrev pub flag_of : List ℕ → Json → Option Bool
+flag_of name (json.object js) = flag_among name js
+flag_of name _ = None
 
 abbrev pub many_of : Given → Option Bool
-many_of (tree (json.object js)) = many_among js
+many_of (tree j) = flag_of (codes "many") j
 many_of _ = None
 
 -- the keys between the dots, as under a query's path

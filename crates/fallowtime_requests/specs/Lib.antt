@@ -1,3 +1,4 @@
+pub mod Along
 pub mod Arranging
 pub mod Fields
 pub mod Inputs

@@ -124,7 +124,7 @@ IsFirst m (k ∷ ks) (g ∷ gs) s = Stops m k g s ⊎ (IsRead k g × IsFirst m k
 IsFirst m _ _ s = ⊥
 
 abbrev pub IsUnread : IdMaker → List Argument → List Given → Stop → Type 0
-IsUnread m ks gs s = ((AsMany ks gs → ⊥) × (s ≡ Words unread.Command)) ⊎ (AsMany ks gs × IsFirst m ks gs s)
+IsUnread m ks gs s = ((AsMany ks gs → ⊥) × (s ≡ Words unread.Arguments)) ⊎ (AsMany ks gs × IsFirst m ks gs s)
 
 -- words that can't be read leave the maker as it is
 abbrev pub KeepsMaker : IdMaker → IdMaker → Stop → Type 0
@@ -132,6 +132,15 @@ KeepsMaker m n (Words u) = n ≡ m
 KeepsMaker m n Memory = Unit {0}
 
 -- ---- a command
+
+-- why it asks for nothing with more arguments than any has: a command that is none of a session is none with any number of them
+abbrev pub beyond : Command → Unread
+beyond command.Backup = unread.Command
+beyond command.Version = unread.Command
+beyond command.ImportAll = unread.Command
+beyond command.ExportAll = unread.Command
+beyond command.Edit = unread.Command
+beyond _ = unread.Arguments
 
 -- what a command with these arguments asks for, or why it asks for nothing; a command that is none of a session is none here
 abbrev pub Reads : IdMaker → IdMaker → Command → List Given → Result Question Stop → Type 0

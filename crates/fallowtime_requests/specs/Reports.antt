@@ -9,7 +9,7 @@ use Rattle.store_update_read.specs.declared.error.ReadError.TheVariants as updat
 use Rattle.store_update_read.specs.declared.error.Reason.{Reason}
 use Rattle.store_update_read.specs.declared.error.Reason.TheVariants as reasons
 use Rattle.fallowtime_requests.specs.declared.unread.Unread.{Unread}
-use Rattle.fallowtime_requests.specs.declared.unread.Unread.TheVariants.{Command, Collection, Document, DocumentAt, Id, Key, Value, Query, Update, Equalities, Options, Fields, Path, Stream}
+use Rattle.fallowtime_requests.specs.declared.unread.Unread.TheVariants.{Command, Arguments, Collection, Document, DocumentAt, Id, Key, Value, Query, Update, Equalities, Options, Fields, Path, Stream}
 
 -- a byte's place, counted from 1
 abbrev pub byte_text : ℕ → List ℕ
@@ -53,6 +53,7 @@ update_text updating.Memory = codes " Memory"
 -- which of the arguments it is, as the answer to a line has it
 abbrev pub at_text : Unread → List ℕ
 at_text Command = codes "command"
+at_text Arguments = codes "arguments"
 at_text Collection = codes "collection"
 at_text (Document e) = codes "document"
 at_text (DocumentAt i) = codes "document " ++ decimal i
@@ -70,6 +71,7 @@ at_text Stream = codes "stream"
 -- what can't be read, and why
 abbrev pub why_text : Unread → List ℕ
 why_text Command = codes "usage"
+why_text Arguments = codes "usage"
 why_text (Document e) = codes "JSON" ++ error_text e
 why_text (Value e) = codes "JSON" ++ error_text e
 why_text (Id e) = codes "id" ++ error_text e

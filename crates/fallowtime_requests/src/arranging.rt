@@ -17,6 +17,7 @@ ghost use Rattle.fallowtime_words.specs.declared.command.Command.TheVariants as 
 use crate::choosing::change_of_line;
 use crate::counting::distinct_of_line;
 use crate::fields::{fields_in, fields_of_words};
+use crate::keying::{set_of_line, unset_of_line};
 use crate::options::boolean_of;
 use crate::plain::are_plainly;
 use crate::reading::{Question, question_of_items};
@@ -306,7 +307,8 @@ fn find_of_three<'w>(
 /// What a line asks for whose command has the values of an array as its arguments, as `question_of_items` says. Behind
 /// them `find`, `find-and-update`, `find-and-replace` and `find-and-delete` have an object of the options `sort`,
 /// `skip`, `limit` and `fields`, and the second and the third of these also `after`; `update` and `replace-one` have
-/// one with the option `upsert`, and `distinct` one with the option `count`.
+/// one with the option `upsert`, `distinct` one with the option `count`, and `set` and `unset` one with the option `key`,
+/// without which a key that has a dot is a path.
 ///
 /// `Words` as there, `Options` if that object can't be read, and `Equalities` if the equality fields of a query can't
 /// be set beside each other.
@@ -336,6 +338,8 @@ pub fn question_of_line<'w>(
             change_of_line(alloc, Command::ReplaceOne, false, items, maker, scratch)
         }
         Command::Distinct => distinct_of_line(alloc, items, maker, scratch),
+        Command::Set => set_of_line(alloc, items, maker, scratch),
+        Command::Unset => unset_of_line(alloc, items, maker, scratch),
         _ => question_of_items(alloc, command, items, maker, scratch),
     }
 }

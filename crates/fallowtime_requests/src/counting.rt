@@ -1,13 +1,13 @@
 //! Whether `distinct` counts the documents that have a value, by the values of a line.
 
 ghost use Rattle.std.specs.Prelude.{◌≡◌, ◌⊎◌, IfErr, Err, MatchResult, None, Some};
-ghost use Rattle.json.specs.Value.{items_view, members_view, value_view as data_of};
-ghost use Rattle.fallowtime_requests.specs.Arranging.{AsksCounted, ReadsLine, StopsOptions, counts_among, counts_of};
-ghost use Rattle.fallowtime_requests.specs.Inputs.{boolean_of, trees};
+ghost use Rattle.json.specs.Value.{items_view, value_view as data_of};
+ghost use Rattle.fallowtime_requests.specs.Arranging.{AsksCounted, ReadsLine, StopsOptions, counts_of};
+ghost use Rattle.fallowtime_requests.specs.Inputs.{trees};
 ghost use Rattle.fallowtime_requests.specs.Reading.{KeepsMaker, Reads};
 ghost use Rattle.fallowtime_words.specs.declared.command.Command.TheVariants as commands;
 
-use crate::options::boolean_of;
+use crate::options::flag_of;
 use crate::reading::{Question, question_of_items};
 use crate::stop::Stop;
 use crate::unread::Unread;
@@ -16,33 +16,6 @@ use fallowtime_texts::IdMaker;
 use fallowtime_words::Command;
 use json::Value;
 use std::alloc::Global;
-
-/// Whether the members of an object of options ask for counts; none if they are no options.
-fn counts_among(members: &[(&str, Value<'_>)]) -> Option<bool>
-    ensures { result ≡ counts_among (members_view members.now) }
-{
-    match members {
-        [] => Some(false),
-        [(key, value)] => {
-            if *key == "count" {
-                boolean_of(value)
-            } else {
-                None
-            }
-        }
-        _ => None,
-    }
-}
-
-/// Whether a value asks for counts; none if it is no object of options.
-fn counts_of(options: &Value<'_>) -> Option<bool>
-    ensures { result ≡ counts_of (data_of options.now) }
-{
-    match options {
-        Value::Object(members) => counts_among(members.as_slice()),
-        _ => None,
-    }
-}
 
 /// What `distinct` asks for by a collection, a path, a query and an object of options.
 fn distinct_by_options<'w>(
@@ -59,7 +32,7 @@ fn distinct_by_options<'w>(
     ensures maker { IfErr result (KeepsMaker maker.old maker.new) }
 {
     let question = question_of_items(alloc, Command::Distinct, items, maker, scratch)?;
-    match counts_of(options) {
+    match flag_of("count", options) {
         Some(counts) => Ok(Question {
             collection: question.collection,
             request: question.request.with_counts(counts),

@@ -2,11 +2,13 @@
 //! words of a command line or the JSON of a line of a session.
 #![tactic(auto)]
 
+mod along;
 mod arranging;
 mod choosing;
 mod counting;
 mod fields;
 mod input;
+mod keying;
 mod options;
 mod parts;
 mod plain;
@@ -18,6 +20,7 @@ mod unread;
 mod updates;
 mod upserts;
 
+pub use along::along_path;
 pub use arranging::{question_of_line, want, wanted_of_words};
 pub use reading::{Layout, Question, ask_for_all, question_of_items, question_of_words};
 pub use request::{Otherwise, Request, Wanted, Work};

@@ -2,7 +2,7 @@
 
 ghost use Rattle.std.specs.Prelude.{◌≡◌, MatchResult, Some};
 ghost use Rattle.json.specs.Value.{members_view, value_view as data_of};
-ghost use Rattle.fallowtime_requests.specs.Inputs.{boolean_of, many_among, many_of, seen, tree};
+ghost use Rattle.fallowtime_requests.specs.Inputs.{boolean_of, flag_among, flag_of, many_of, seen};
 ghost use Rattle.fallowtime_requests.specs.Reading.{StopsOptions};
 
 use crate::input::Input;
@@ -20,14 +20,15 @@ pub(crate) fn boolean_of(value: &Value<'_>) -> Option<bool>
     }
 }
 
-/// Whether the members of an object of options ask for all documents; none if they are no options.
-fn many_among(members: &[(&str, Value<'_>)]) -> Option<bool>
-    ensures { result ≡ many_among (members_view members.now) }
+/// What the members of an object of options, which has none but that of this name, say of it: false if it isn't there;
+/// none if they are no such options.
+fn flag_among(name: &str, members: &[(&str, Value<'_>)]) -> Option<bool>
+    ensures { result ≡ flag_among name.now (members_view members.now) }
 {
     match members {
         [] => Some(false),
         [(key, value)] => {
-            if *key == "many" {
+            if *key == name {
                 boolean_of(value)
             } else {
                 None
@@ -37,12 +38,12 @@ fn many_among(members: &[(&str, Value<'_>)]) -> Option<bool>
     }
 }
 
-/// Whether a value asks for all documents; none if it is no object of options.
-fn many_in(options: &Value<'_>) -> Option<bool>
-    ensures { result ≡ many_of (tree (data_of options.now)) }
+/// What an object of options says of the only one of them, which has this name; none if it is no such object.
+pub(crate) fn flag_of(name: &str, options: &Value<'_>) -> Option<bool>
+    ensures { result ≡ flag_of name.now (data_of options.now) }
 {
     match options {
-        Value::Object(members) => many_among(members.as_slice()),
+        Value::Object(members) => flag_among(name, members.as_slice()),
         _ => None,
     }
 }
@@ -53,7 +54,7 @@ fn many_if_any(input: Input<'_, '_>) -> Option<bool>
 {
     match input {
         Input::Word(_) => None,
-        Input::Tree(options) => many_in(options),
+        Input::Tree(options) => flag_of("many", options),
     }
 }
 

@@ -22,7 +22,7 @@ use crate::parts::{collection_of, document_of, id_of, key_of, path_of, query_in,
 use crate::request::{Request, Work};
 use crate::stop::Stop;
 use crate::stream::stream_in;
-use crate::unread::Unread;
+use crate::unread::{Unread, beyond};
 use crate::updates::parts_of;
 use bson_json_read::Scratch;
 use bson_model::{Bson, Document};
@@ -71,7 +71,7 @@ fn name_of<'w>(arguments: &[Input<'_, 'w>]) -> Result<&'w str, Stop>
 {
     match arguments {
         [name] => collection_of(*name),
-        _ => Err(Stop::Words(Unread::Command)),
+        _ => Err(Stop::Words(Unread::Arguments)),
     }
 }
 
@@ -90,7 +90,7 @@ fn with_document<'w>(
             let name = collection_of(*name)?;
             Ok((name, document_of(alloc, *document, scratch)?))
         }
-        _ => Err(Stop::Words(Unread::Command)),
+        _ => Err(Stop::Words(Unread::Arguments)),
     }
 }
 
@@ -109,7 +109,7 @@ fn with_own_id<'w>(
             let name = collection_of(*name)?;
             Ok((name, id_of(alloc, *id, scratch)?))
         }
-        _ => Err(Stop::Words(Unread::Command)),
+        _ => Err(Stop::Words(Unread::Arguments)),
     }
 }
 
@@ -124,7 +124,7 @@ fn with_path<'w>(alloc: Global, arguments: &[Input<'_, 'w>]) -> Result<(&'w str,
             let name = collection_of(*name)?;
             Ok((name, path_of(alloc, *path)?))
         }
-        _ => Err(Stop::Words(Unread::Command)),
+        _ => Err(Stop::Words(Unread::Arguments)),
     }
 }
 
@@ -145,7 +145,7 @@ fn with_key<'w>(
             let id = id_of(alloc, *id, scratch)?;
             Ok((name, id, key_of(*key)?))
         }
-        _ => Err(Stop::Words(Unread::Command)),
+        _ => Err(Stop::Words(Unread::Arguments)),
     }
 }
 
@@ -167,7 +167,7 @@ fn with_value<'w>(
             let key = key_of(*key)?;
             Ok((name, id, key, value_of(alloc, *value, scratch)?))
         }
-        _ => Err(Stop::Words(Unread::Command)),
+        _ => Err(Stop::Words(Unread::Arguments)),
     }
 }
 
@@ -194,7 +194,7 @@ fn with_query<'w>(
             let name = collection_of(*name)?;
             Ok((name, query_in(alloc, *query, scratch)?))
         }
-        _ => Err(Stop::Words(Unread::Command)),
+        _ => Err(Stop::Words(Unread::Arguments)),
     }
 }
 
@@ -218,7 +218,7 @@ fn with_path_and_query<'w>(
             let path = path_of(alloc, *path)?;
             Ok((name, path, query_in(alloc, *query, scratch)?))
         }
-        _ => Err(Stop::Words(Unread::Command)),
+        _ => Err(Stop::Words(Unread::Arguments)),
     }
 }
 
@@ -242,7 +242,7 @@ fn with_update<'w>(
             let (name, question, steps) = parts_of(alloc, *name, *query, *update, scratch)?;
             Ok((name, question, steps, many_of(*options)?))
         }
-        _ => Err(Stop::Words(Unread::Command)),
+        _ => Err(Stop::Words(Unread::Arguments)),
     }
 }
 
@@ -267,7 +267,7 @@ fn with_selection<'w>(
             let question = query_in(alloc, *query, scratch)?;
             Ok((name, question, many_of(*options)?))
         }
-        _ => Err(Stop::Words(Unread::Command)),
+        _ => Err(Stop::Words(Unread::Arguments)),
     }
 }
 
@@ -288,7 +288,7 @@ fn with_replacement<'w>(
             let question = query_in(alloc, *query, scratch)?;
             Ok((name, question, document_of(alloc, *document, scratch)?))
         }
-        _ => Err(Stop::Words(Unread::Command)),
+        _ => Err(Stop::Words(Unread::Arguments)),
     }
 }
 
@@ -305,7 +305,7 @@ fn with_steps<'w>(
 {
     match arguments {
         [name, query, update] => parts_of(alloc, *name, *query, *update, scratch),
-        _ => Err(Stop::Words(Unread::Command)),
+        _ => Err(Stop::Words(Unread::Arguments)),
     }
 }
 
@@ -325,7 +325,7 @@ fn with_question<'w>(
             let question = query_in(alloc, *query, scratch)?;
             Ok((name, question))
         }
-        _ => Err(Stop::Words(Unread::Command)),
+        _ => Err(Stop::Words(Unread::Arguments)),
     }
 }
 
@@ -544,7 +544,7 @@ fn import<'w>(
             let stream = stream_in(alloc, *documents, maker)?;
             Ok(plain(collection, Request::Import(stream)))
         }
-        _ => Err(Stop::Words(Unread::Command)),
+        _ => Err(Stop::Words(Unread::Arguments)),
     }
 }
 
@@ -578,7 +578,7 @@ fn collections<'w>(arguments: &[Input<'_, 'w>]) -> Result<Question<'w>, Stop>
 {
     match arguments {
         [] => Ok(plain("", Request::Collections)),
-        _ => Err(Stop::Words(Unread::Command)),
+        _ => Err(Stop::Words(Unread::Arguments)),
     }
 }
 
@@ -587,7 +587,7 @@ fn check<'w>(arguments: &[Input<'_, 'w>]) -> Result<Question<'w>, Stop>
 {
     match arguments {
         [] => Ok(plain("", Request::Check)),
-        _ => Err(Stop::Words(Unread::Command)),
+        _ => Err(Stop::Words(Unread::Arguments)),
     }
 }
 
@@ -718,8 +718,8 @@ fn ask_four<'w>(
 /// What a command asks for whose arguments are words of a command line. A document that is to be inserted gets an `_id`
 /// of the maker if it has none. `scratch` is room that is kept from text to text.
 ///
-/// `Words` for the first argument, in the order of the table, that can't be read, and why; or `Command` if there are
-/// too few or too many of them, or if it is `backup`, which asks nothing of a store. `Memory` if a growth was refused.
+/// `Words` for the first argument, in the order of the table, that can't be read, and why; or `Arguments` if there are
+/// too few or too many of them, or `Command` if it is one, as `backup`, that asks nothing of a store. `Memory` if a growth was refused.
 pub fn question_of_words<'w>(
     alloc: Global,
     command: Command,
@@ -753,7 +753,7 @@ pub fn question_of_words<'w>(
             maker,
             scratch,
         ),
-        _ => Err(Stop::Words(Unread::Command)),
+        _ => Err(Stop::Words(beyond(command))),
     }
 }
 
@@ -792,6 +792,6 @@ pub fn question_of_items<'w>(
             maker,
             scratch,
         ),
-        _ => Err(Stop::Words(Unread::Command)),
+        _ => Err(Stop::Words(beyond(command))),
     }
 }

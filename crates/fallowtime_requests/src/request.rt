@@ -52,6 +52,8 @@ pub enum Request<'w> {
     Set(Bson, &'w str, Bson),
     /// To take a key out of the document with an `_id`.
     Unset(Bson, &'w str),
+    /// To make an update of the document with an `_id`; if so, to say whether it is another one then.
+    Alter(Bson, Vec<Step>, bool),
     /// To change the documents that answer a question: all of them, if so, or else the first.
     Change(Question, Work, bool),
     /// The same, and what is done if no document answers.

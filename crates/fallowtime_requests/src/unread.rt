@@ -1,9 +1,11 @@
 //! Arguments that can't be read.
 
 ghost use Rattle.std.specs.Prelude.{◌≡◌, ◌++◌, OnOk, codes, decimal, string_bytes};
+ghost use Rattle.fallowtime_requests.specs.Reading.{beyond};
 ghost use Rattle.fallowtime_requests.specs.Reports.{byte_text, error_text, fault_text, query_text, reason_text, update_text};
 
 use bson_json_read::Error;
+use fallowtime_words::Command;
 use itoa::Buffer;
 use std::alloc::{AllocError, Global};
 use store_question_read::QueryError;
@@ -12,8 +14,10 @@ use store_update_read::{ReadError, Reason};
 /// What can't be read, and why.
 #[derive(Debug, Drop)]
 pub enum Unread {
-    /// There is no command of this name with this number of arguments.
+    /// There is no command of this name, or it asks nothing of a store.
     Command,
+    /// The command has another number of arguments.
+    Arguments,
     /// The name of a collection is no text.
     Collection,
     /// It is no document of Extended JSON.
@@ -41,6 +45,20 @@ pub enum Unread {
     Path,
     /// It is neither bytes of subtype 00 nor an array.
     Stream,
+}
+
+/// Why a command asks for nothing with more arguments than any command has.
+pub(crate) fn beyond(command: Command) -> Unread
+    ensures { result ≡ beyond command }
+{
+    match command {
+        Command::Backup
+        | Command::Version
+        | Command::ImportAll
+        | Command::ExportAll
+        | Command::Edit => Unread::Command,
+        _ => Unread::Arguments,
+    }
 }
 
 /// Appends the place of a byte, counted from 1, to a line.
@@ -159,6 +177,7 @@ impl Unread {
     {
         match self {
             Unread::Command => line.push_str("command"),
+            Unread::Arguments => line.push_str("arguments"),
             Unread::Collection => line.push_str("collection"),
             Unread::Document(_) => line.push_str("document"),
             Unread::DocumentAt(index) => push_document(line, *index),
@@ -189,7 +208,7 @@ impl Unread {
         ensures { OnOk result (string_bytes line.new ≡ string_bytes line.old ++ why_text self.now) }
     {
         match self {
-            Unread::Command => line.push_str("usage"),
+            Unread::Command | Unread::Arguments => line.push_str("usage"),
             Unread::Document(error) | Unread::Value(error) => {
                 line.push_str("JSON")?;
                 push_error(line, *error)

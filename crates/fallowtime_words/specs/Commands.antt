@@ -84,18 +84,20 @@ arguments Edit = Collection ∷ Id ∷ []
 
 -- the options beside `--wait`
 abbrev pub allowed : Command → Allowed
-allowed Insert = record { canonical = true; bytes = false; lines = false; many = false; after = false; upsert = false; counts = false; arranged = false }
-allowed Get = record { canonical = true; bytes = true; lines = false; many = false; after = false; upsert = false; counts = false; arranged = false }
-allowed Find = record { canonical = true; bytes = true; lines = false; many = false; after = false; upsert = false; counts = false; arranged = true }
-allowed Import = record { canonical = false; bytes = false; lines = true; many = false; after = false; upsert = false; counts = false; arranged = false }
-allowed Update = record { canonical = false; bytes = false; lines = false; many = true; after = false; upsert = true; counts = false; arranged = false }
-allowed ReplaceOne = record { canonical = false; bytes = false; lines = false; many = false; after = false; upsert = true; counts = false; arranged = false }
-allowed FindAndUpdate = record { canonical = true; bytes = true; lines = false; many = false; after = true; upsert = false; counts = false; arranged = true }
-allowed FindAndReplace = record { canonical = true; bytes = true; lines = false; many = false; after = true; upsert = false; counts = false; arranged = true }
-allowed FindAndDelete = record { canonical = true; bytes = true; lines = false; many = false; after = false; upsert = false; counts = false; arranged = true }
-allowed Delete = record { canonical = false; bytes = false; lines = false; many = true; after = false; upsert = false; counts = false; arranged = false }
-allowed Distinct = record { canonical = true; bytes = false; lines = false; many = false; after = false; upsert = false; counts = true; arranged = false }
-allowed _ = record { canonical = false; bytes = false; lines = false; many = false; after = false; upsert = false; counts = false; arranged = false }
+allowed Insert = record { canonical = true; bytes = false; lines = false; many = false; after = false; upsert = false; counts = false; literal = false; arranged = false }
+allowed Get = record { canonical = true; bytes = true; lines = false; many = false; after = false; upsert = false; counts = false; literal = false; arranged = false }
+allowed Find = record { canonical = true; bytes = true; lines = false; many = false; after = false; upsert = false; counts = false; literal = false; arranged = true }
+allowed Import = record { canonical = false; bytes = false; lines = true; many = false; after = false; upsert = false; counts = false; literal = false; arranged = false }
+allowed Update = record { canonical = false; bytes = false; lines = false; many = true; after = false; upsert = true; counts = false; literal = false; arranged = false }
+allowed ReplaceOne = record { canonical = false; bytes = false; lines = false; many = false; after = false; upsert = true; counts = false; literal = false; arranged = false }
+allowed FindAndUpdate = record { canonical = true; bytes = true; lines = false; many = false; after = true; upsert = false; counts = false; literal = false; arranged = true }
+allowed FindAndReplace = record { canonical = true; bytes = true; lines = false; many = false; after = true; upsert = false; counts = false; literal = false; arranged = true }
+allowed FindAndDelete = record { canonical = true; bytes = true; lines = false; many = false; after = false; upsert = false; counts = false; literal = false; arranged = true }
+allowed Delete = record { canonical = false; bytes = false; lines = false; many = true; after = false; upsert = false; counts = false; literal = false; arranged = false }
+allowed Distinct = record { canonical = true; bytes = false; lines = false; many = false; after = false; upsert = false; counts = true; literal = false; arranged = false }
+allowed Set = record { canonical = false; bytes = false; lines = false; many = false; after = false; upsert = false; counts = false; literal = true; arranged = false }
+allowed Unset = record { canonical = false; bytes = false; lines = false; many = false; after = false; upsert = false; counts = false; literal = true; arranged = false }
+allowed _ = record { canonical = false; bytes = false; lines = false; many = false; after = false; upsert = false; counts = false; literal = false; arranged = false }
 
 -- what becomes of FILE
 abbrev pub effect : Command → Effect

@@ -10,7 +10,7 @@ use Rattle.fallowtime_words.specs.declared.options.Given.{Given}
 use Rattle.fallowtime_words.specs.declared.options.OptionValue.{OptionValue}
 use Rattle.fallowtime_words.specs.declared.options.OptionValue.TheVariants.{Nothing, Number, Text}
 use Rattle.fallowtime_words.specs.declared.options.OptionName.{OptionName}
-use Rattle.fallowtime_words.specs.declared.options.OptionName.TheVariants.{Canonical, Bytes, Lines, Many, After, Upsert, Counts, Messages, Wait, Sort, Skip, Limit, Fields, Without}
+use Rattle.fallowtime_words.specs.declared.options.OptionName.TheVariants.{Canonical, Bytes, Lines, Many, After, Upsert, Counts, Literal, Messages, Wait, Sort, Skip, Limit, Fields, Without}
 use Rattle.fallowtime_words.specs.declared.options.Options.{Options}
 
 -- decimal digits, and the number that they write
@@ -27,6 +27,7 @@ option_named word =
     else if bytes_eq word (codes "after") then Some After
     else if bytes_eq word (codes "upsert") then Some Upsert
     else if bytes_eq word (codes "count") then Some Counts
+    else if bytes_eq word (codes "key") then Some Literal
     else if bytes_eq word (codes "messages") then Some Messages
     else if bytes_eq word (codes "wait") then Some Wait
     else if bytes_eq word (codes "sort") then Some Sort
@@ -65,24 +66,46 @@ Spell words [] = words ≡ []
 Spell words (g ∷ gs) = (behind : List (List ℕ)) × Lead words g behind × Spell behind gs
 
 abbrev pub no_options : Options
-no_options = record { canonical = false; bytes = false; lines = false; many = false; after = false; upsert = false; counts = false; messages = false; seconds = None; sort = None; skip = None; limit = None; fields = None; without = None }
+no_options = record { canonical = false; bytes = false; lines = false; many = false; after = false; upsert = false; counts = false; literal = false; messages = false; seconds = None; sort = None; skip = None; limit = None; fields = None; without = None }
 
--- the options and one more of this number, if it isn't among them
+-- the options and one more, if it isn't among them: one that says in which form, and which, documents are read or printed
+abbrev pub with_form : OptionName → Options → Option Options
+with_form Canonical o = if o.canonical then None else Some (record o { canonical = true })
+with_form Bytes o = if o.bytes then None else Some (record o { bytes = true })
+with_form Lines o = if o.lines then None else Some (record o { lines = true })
+with_form Counts o = if o.counts then None else Some (record o { counts = true })
+with_form Messages o = if o.messages then None else Some (record o { messages = true })
+with_form _ o = None
+
+-- one that says what a change does
+abbrev pub with_change : OptionName → Options → Option Options
+with_change Many o = if o.many then None else Some (record o { many = true })
+with_change After o = if o.after then None else Some (record o { after = true })
+with_change Upsert o = if o.upsert then None else Some (record o { upsert = true })
+with_change Literal o = if o.literal then None else Some (record o { literal = true })
+with_change _ o = None
+
+-- one that has a number
+abbrev pub with_number : OptionName → ℕ → Options → Option Options
+with_number Wait n o = if is_some o.seconds then None else Some (record o { seconds = Some n })
+with_number Sort n o = if is_some o.sort then None else Some (record o { sort = Some n })
+with_number Skip n o = if is_some o.skip then None else Some (record o { skip = Some n })
+with_number Limit n o = if is_some o.limit then None else Some (record o { limit = Some n })
+with_number Fields n o = if is_some o.fields then None else Some (record o { fields = Some n })
+with_number Without n o = if is_some o.without then None else Some (record o { without = Some n })
+with_number _ n o = None
+
 abbrev pub with_option : OptionName → ℕ → Options → Option Options
-with_option Canonical n o = if o.canonical then None else Some (record o { canonical = true })
-with_option Bytes n o = if o.bytes then None else Some (record o { bytes = true })
-with_option Lines n o = if o.lines then None else Some (record o { lines = true })
-with_option Many n o = if o.many then None else Some (record o { many = true })
-with_option After n o = if o.after then None else Some (record o { after = true })
-with_option Upsert n o = if o.upsert then None else Some (record o { upsert = true })
-with_option Counts n o = if o.counts then None else Some (record o { counts = true })
-with_option Messages n o = if o.messages then None else Some (record o { messages = true })
-with_option Wait n o = if is_some o.seconds then None else Some (record o { seconds = Some n })
-with_option Sort n o = if is_some o.sort then None else Some (record o { sort = Some n })
-with_option Skip n o = if is_some o.skip then None else Some (record o { skip = Some n })
-with_option Limit n o = if is_some o.limit then None else Some (record o { limit = Some n })
-with_option Fields n o = if is_some o.fields then None else Some (record o { fields = Some n })
-with_option Without n o = if is_some o.without then None else Some (record o { without = Some n })
+with_option Canonical n o = with_form Canonical o
+with_option Bytes n o = with_form Bytes o
+with_option Lines n o = with_form Lines o
+with_option Counts n o = with_form Counts o
+with_option Messages n o = with_form Messages o
+with_option Many n o = with_change Many o
+with_option After n o = with_change After o
+with_option Upsert n o = with_change Upsert o
+with_option Literal n o = with_change Literal o
+with_option name n o = with_number name n o
 
 abbrev pub added : Given → Options → Option Options
 added g o = with_option g.name g.number o
@@ -102,7 +125,7 @@ IsArranged o = (is_some o.sort ≡ true) ⊎ (is_some o.skip ≡ true) ⊎ (is_s
 
 -- no option except `--messages` and `--wait`
 abbrev pub IsOfSession : Options → Type 0
-IsOfSession o = (o.canonical ≡ false) × (o.bytes ≡ false) × (o.lines ≡ false) × (o.many ≡ false) × (o.after ≡ false) × (o.upsert ≡ false) × (o.counts ≡ false) × (IsArranged o → ⊥)
+IsOfSession o = (o.canonical ≡ false) × (o.bytes ≡ false) × (o.lines ≡ false) × (o.many ≡ false) × (o.after ≡ false) × (o.upsert ≡ false) × (o.counts ≡ false) × (o.literal ≡ false) × (IsArranged o → ⊥)
 
 -- a row allows the options that say in which form, and which, documents are read or printed
 pub record FormsAreAllowed (row : Allowed) (o : Options) : Type 0 where
@@ -117,6 +140,7 @@ pub record ChangesAreAllowed (row : Allowed) (o : Options) : Type 0 where
   pub many : o.many ≡ true → row.many ≡ true
   pub after : o.after ≡ true → row.after ≡ true
   pub upsert : o.upsert ≡ true → row.upsert ≡ true
+  pub literal : o.literal ≡ true → row.literal ≡ true
 
 -- the options are among those that a row allows; none allows `--messages`
 pub record AreAllowed (row : Allowed) (o : Options) : Type 0 where

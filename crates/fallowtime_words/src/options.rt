@@ -25,6 +25,8 @@ pub struct Options {
     pub upsert: bool,
     /// `--count`: of each value it is said how many documents have it; else not.
     pub counts: bool,
+    /// `--key`: what names a value of a document is one key, as it is; else a path.
+    pub literal: bool,
     /// `--messages`: MongoDB's messages are answered; else lines.
     pub messages: bool,
     /// `--wait SECONDS`: how many seconds to wait for a file that another process has, if that is given.
@@ -58,6 +60,8 @@ pub enum OptionName {
     Upsert,
     /// `--count`.
     Counts,
+    /// `--key`.
+    Literal,
     /// `--messages`.
     Messages,
     /// `--wait`.
@@ -101,6 +105,7 @@ fn option_named(word: &str) -> Option<OptionName>
         "after" => Some(OptionName::After),
         "upsert" => Some(OptionName::Upsert),
         "count" => Some(OptionName::Counts),
+        "key" => Some(OptionName::Literal),
         "messages" => Some(OptionName::Messages),
         "wait" => Some(OptionName::Wait),
         "sort" => Some(OptionName::Sort),
@@ -180,7 +185,7 @@ fn split_option(words: &[String]) -> Option<(Given, &[String])>
 
 impl Options {
     ghost use Rattle.std.specs.Prelude.{◌≡◌, ◌↔◌, IsTrue};
-    ghost use Rattle.fallowtime_words.specs.Options.{AreAllowed, ChangesAreAllowed, FormsAreAllowed, IsArranged, IsOfSession, added};
+    ghost use Rattle.fallowtime_words.specs.Options.{AreAllowed, ChangesAreAllowed, FormsAreAllowed, IsArranged, IsOfSession, added, with_change, with_form, with_number};
 
     /// No option.
     const NONE: Options = Options {
@@ -191,6 +196,7 @@ impl Options {
         after: false,
         upsert: false,
         counts: false,
+        literal: false,
         messages: false,
         seconds: None,
         sort: None,
@@ -226,7 +232,10 @@ impl Options {
     fn changes_are_among(self, row: Allowed) -> bool
         ensures { IsTrue result ↔ ChangesAreAllowed row self }
     {
-        (!self.many || row.many) && (!self.after || row.after) && (!self.upsert || row.upsert)
+        (!self.many || row.many)
+            && (!self.after || row.after)
+            && (!self.upsert || row.upsert)
+            && (!self.literal || row.literal)
     }
 
     /// Whether each is among those that a row allows.
@@ -247,15 +256,16 @@ impl Options {
             && !self.after
             && !self.upsert
             && !self.counts
+            && !self.literal
             && !self.is_arranged()
     }
 
-    /// These options and one more; none if it is among them.
-    fn with(self, given: Given) -> Option<Options>
-        ensures { result ≡ added given self }
+    /// These options and one that says in which form, and which, documents are read or printed; none if it is among
+    /// them, or is another one.
+    fn with_form(self, name: OptionName) -> Option<Options>
+        ensures { result ≡ with_form name self }
     {
-        let number = given.number;
-        match given.name {
+        match name {
             OptionName::Canonical if !self.canonical => Some(Options {
                 canonical: true,
                 ..self
@@ -268,6 +278,23 @@ impl Options {
                 lines: true,
                 ..self
             }),
+            OptionName::Counts if !self.counts => Some(Options {
+                counts: true,
+                ..self
+            }),
+            OptionName::Messages if !self.messages => Some(Options {
+                messages: true,
+                ..self
+            }),
+            _ => None,
+        }
+    }
+
+    /// These options and one that says what a change does; none if it is among them, or is another one.
+    fn with_change(self, name: OptionName) -> Option<Options>
+        ensures { result ≡ with_change name self }
+    {
+        match name {
             OptionName::Many if !self.many => Some(Options { many: true, ..self }),
             OptionName::After if !self.after => Some(Options {
                 after: true,
@@ -277,14 +304,19 @@ impl Options {
                 upsert: true,
                 ..self
             }),
-            OptionName::Counts if !self.counts => Some(Options {
-                counts: true,
+            OptionName::Literal if !self.literal => Some(Options {
+                literal: true,
                 ..self
             }),
-            OptionName::Messages if !self.messages => Some(Options {
-                messages: true,
-                ..self
-            }),
+            _ => None,
+        }
+    }
+
+    /// These options and one that has a number; none if it is among them, or is another one.
+    fn with_number(self, name: OptionName, number: usize) -> Option<Options>
+        ensures { result ≡ with_number name number self }
+    {
+        match name {
             OptionName::Wait if self.seconds.is_none() => Some(Options {
                 seconds: Some(number as u64),
                 ..self
@@ -310,6 +342,23 @@ impl Options {
                 ..self
             }),
             _ => None,
+        }
+    }
+
+    /// These options and one more; none if it is among them.
+    fn with(self, given: Given) -> Option<Options>
+        ensures { result ≡ added given self }
+    {
+        match given.name {
+            OptionName::Canonical
+            | OptionName::Bytes
+            | OptionName::Lines
+            | OptionName::Counts
+            | OptionName::Messages => self.with_form(given.name),
+            OptionName::Many | OptionName::After | OptionName::Upsert | OptionName::Literal => {
+                self.with_change(given.name)
+            }
+            _ => self.with_number(given.name, given.number),
         }
     }
 }

@@ -11,7 +11,7 @@ pub enum Argument {
     Document,
     /// ID: an `_id` of Extended JSON; what is no JSON is the text itself.
     Id,
-    /// KEY: a key at the top of a document, as it is.
+    /// PATH of a value of a document: keys with dots between them, or, with `--key`, one key as it is.
     Key,
     /// VALUE: a value of Extended JSON.
     Value,
@@ -76,6 +76,8 @@ pub struct Allowed {
     pub upsert: bool,
     /// `--count`.
     pub counts: bool,
+    /// `--key`.
+    pub literal: bool,
     /// `--sort`, `--skip`, `--limit`, `--fields` and `--without`.
     pub arranged: bool,
 }
@@ -107,6 +109,7 @@ const NO_OPTION: Allowed = Allowed {
     after: false,
     upsert: false,
     counts: false,
+    literal: false,
     arranged: false,
 };
 
@@ -153,6 +156,11 @@ const MANY_OR_UPSERT: Allowed = Allowed {
 const COUNTED: Allowed = Allowed {
     counts: true,
     ..CANONICAL
+};
+
+const LITERAL: Allowed = Allowed {
+    literal: true,
+    ..NO_OPTION
 };
 
 /// The commands, in the order of the help.
@@ -202,19 +210,19 @@ pub const TABLE: [Signature; 27] = [
             Argument::Key,
             Argument::Value,
         ],
-        options: NO_OPTION,
+        options: LITERAL,
         effect: Effect::Changes,
         place: Place::Both,
-        about: "gives a key of a document a value",
+        about: "puts a value at a path of a document",
     },
     Signature {
         command: Command::Unset,
         name: "unset",
         arguments: &[Argument::Collection, Argument::Id, Argument::Key],
-        options: NO_OPTION,
+        options: LITERAL,
         effect: Effect::Changes,
         place: Place::Both,
-        about: "takes a key away, and prints whether it was there",
+        about: "takes a value away, and prints whether one was there",
     },
     Signature {
         command: Command::Update,

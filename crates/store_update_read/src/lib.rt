@@ -10,5 +10,6 @@ mod values;
 mod words;
 
 pub use error::{ReadError, Reason};
+pub use paths::path_at;
 pub use seed::{Seed, seed_of};
 pub use update::{read_update, update_of};

@@ -68,8 +68,9 @@ fn are_keys(keys: &[String]) -> bool
     true
 }
 
-/// The keys of a text, under an operator, if they are a path that no step touches.
-pub(crate) fn path_at(
+/// The keys of a text, under an operator, if they are a path that no step touches. `At`, with the reason, if one of them
+/// is empty or begins with `$`, if it is a path of the `_id`, or if a step touches it; `Memory` if a growth was refused.
+pub fn path_at(
     alloc: Global,
     name: &str,
     path: &str,

@@ -37,6 +37,12 @@ returns-in-Unset-clause-moves g c = rw (c.in-Unset.is, c.flag.ensures.reply) c.u
 pub returns-in-Unset-clause-crash : goal.returns-in-Unset-clause-crash
 returns-in-Unset-clause-crash g c = rw (c.in-Unset.is, c.flag.ensures.reply) c.unset.ensures.crash
 
+pub returns-in-Alter-clause-moves : goal.returns-in-Alter-clause-moves
+returns-in-Alter-clause-moves g c = rw c.in-Alter.is (rw c.as_slice.ensures.value at c.alter.ensures.moves)
+
+pub returns-in-Alter-clause-crash : goal.returns-in-Alter-clause-crash
+returns-in-Alter-clause-crash g c = rw c.in-Alter.is (rw c.as_slice.ensures.value at c.alter.ensures.crash)
+
 pub returns-in-Change-clause-moves : goal.returns-in-Change-clause-moves
 returns-in-Change-clause-moves g c = rw c.in-Change.is c.change.ensures.moves
 
@@ -74,10 +80,10 @@ returns-in-Distinct-clause-moves g c =
     rw (c.in-Distinct.is, c.values.ensures.reply) (differs c.args.name.now (form_of c.in-Distinct.question) c.in-Distinct.path.items c.in-Distinct.counts _ c.as_slice-in-Distinct.ensures.value (store_state g.S.Store c.args.store.now) (store_state g.S.Store c.distinct.new.store) c.distinct.result c.distinct.ensures.moves)
 
 pub returns-in-Import-clause-moves : goal.returns-in-Import-clause-moves
-returns-in-Import-clause-moves g c = rw (c.in-Import.is, c.number-in-Import.ensures.reply) (rw c.as_slice.ensures.value at c.import_bytes.ensures.moves)
+returns-in-Import-clause-moves g c = rw (c.in-Import.is, c.number-in-Import.ensures.reply) (rw c.as_slice-in-Import.ensures.value at c.import_bytes.ensures.moves)
 
 pub returns-in-Import-clause-crash : goal.returns-in-Import-clause-crash
-returns-in-Import-clause-crash g c = rw (c.in-Import.is, c.number-in-Import.ensures.reply) (rw c.as_slice.ensures.value at c.import_bytes.ensures.crash)
+returns-in-Import-clause-crash g c = rw (c.in-Import.is, c.number-in-Import.ensures.reply) (rw c.as_slice-in-Import.ensures.value at c.import_bytes.ensures.crash)
 
 pub returns-in-Index-clause-moves : goal.returns-in-Index-clause-moves
 returns-in-Index-clause-moves g c =

@@ -23,4 +23,4 @@ returns-in-len4-clause-asked c =
     four_asked of_text c.args.maker.now c.ask_four.new.maker c.args.command c.ask_four.result c.args.words.now c.a-item-then-words-lt5.result c.b-item-then-words-lt5.result c.c-item-then-words-lt5.result c.d-item.result c.of_word-in-len4.result c.of_word-in-len4-2.result c.of_word-in-len4-3.result c.of_word-in-len4-4.result (omega (arith, c.in-len4.len_at_least, c.in-len4.len_below)) (sym c.a-item-then-words-lt5.is) (sym c.b-item-then-words-lt5.is) (sym c.c-item-then-words-lt5.is) (sym c.d-item.is) c.of_word-in-len4.ensures c.of_word-in-len4-2.ensures c.of_word-in-len4-3.ensures c.of_word-in-len4-4.ensures c.ask_four.ensures.asked
 
 pub returns-in_default-clause-asked : goal.returns-in_default-clause-asked
-returns-in_default-clause-asked c = too_many_texts c.args.maker.now c.args.command c.args.words.now (omega (arith, c.in_default.len_at_least))
+returns-in_default-clause-asked c = rw c.beyond.ensures (too_many_texts c.args.maker.now c.args.command c.args.words.now (omega (arith, c.in_default.len_at_least)))

@@ -1,6 +1,0 @@
-use Rattle.fallowtime_requests.proofs.OptionLemmas.{of_object}
-use Rattle.fallowtime_requests.proofs.options.many_in.Goals as goal
-
-pub returns-in-Object : goal.returns-in-Object
-returns-in-Object c =
-    of_object c.args.options.now c.in-Object.members c.as_slice.result.now c.many_among.result c.in-Object.is c.as_slice.ensures.value c.many_among.ensures
