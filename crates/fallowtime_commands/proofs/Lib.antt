@@ -2,8 +2,8 @@ mod PrintLemmas
 mod AskLemmas
 mod EarlyLemmas
 mod KeepLemmas
-mod PutLemmas
-mod SetLemmas
+pub mod PutLemmas
+pub mod SetLemmas
 mod ChangeLemmas
 mod FindingLemmas
 mod IndexLemmas

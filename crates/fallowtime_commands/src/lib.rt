@@ -2,7 +2,7 @@
 //! returns is printed.
 #![tactic(auto)]
 
-mod answer;
+pub mod answer;
 mod asking;
 mod changing;
 mod differing;
@@ -23,8 +23,10 @@ mod upserting;
 mod wanting;
 
 pub use answer::Answer;
-pub use executing::execute;
+pub use executing::{execute, insert_text, print_outcome};
 pub use looking::{export_all, look_up, print_found};
 pub use performing::perform;
 pub use printing::Form;
 pub use refusal::{Refusal, update_name};
+pub use setting::{can_be_set, with_value};
+pub use storing::kept_bytes;
