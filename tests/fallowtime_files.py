@@ -188,6 +188,8 @@ UNMET = {("bad.db", "get"): (0, line_of(document(0)), ""), ("bad.db", "count"): 
          ("bad.db", "export"): (0, stream(range(6)) + bytes.fromhex("0500000000") + stream(range(7, 300)), ""),
          ("collide.db", "get"): (1, b"", "refused: NotFound _id 0\n"), ("collide.db", "count"): (0, b"2\n", ""), ("collide.db", "export"): (0, PAIR, ""),
          ("collide.db", "collections"): (0, b"c\n", "")}
+LIGHT = {"bad.db": {"insert": (0, b"-1\n", ""), "unset": (0, b"true\n", ""), "import": refusal("BadRow 7"), "else": (0, b"", "")},
+         "collide.db": {"insert": (0, b"-1\n", ""), "put": (0, b"", ""), "import": refusal("IdsCollide 1 2"), "else": refusal("NotFound _id 0")}}
 for file, told in [("text", "NoDatabase"), ("damaged.db", "NoDatabase"), ("cut.db", "NoDatabase"), (".", "NotPlain"), ("linked.db", "NotPlain"),
                    ("pipe", "NotPlain"), ("/dev/null", "NotPlain"), ("shop.db/x.db", "NoFolder"), ("other.db", "NotAStore"), ("bad.db", "BadRow 7"),
                    ("collide.db", "IdsCollide 1 2")]:
@@ -197,10 +199,18 @@ for file, told in [("text", "NoDatabase"), ("damaged.db", "NoDatabase"), ("cut.d
         holds(f"{words[0]} over {file}", run(file, *words), met)
     stay("what is refused", before)
     for words in CHANGES:
-        holds(f"{words[0]} over {file}", run(file, *words), refusal(told))
+        if file not in LIGHT:
+            holds(f"{words[0]} over {file}", run(file, *words), refusal(told))
     # A change that is refused as it opens a file may leave a log beside it, with nothing to play back.
     holds("what is refused", [name for name in changed(before) if name != f"{file}-wal" or os.path.getsize(name) > 41], [])
     for name in changed(before):
+        os.remove(name)
+# What changes one document by its `_id` meets only the row of that.
+for file in LIGHT:
+    shutil.copy(file, "met.db")
+    for words in CHANGES:
+        holds(f"{words[0]} over {file}", run("met.db", *words), LIGHT[file].get(words[0], LIGHT[file]["else"]))
+    for name in "met.db", "met.db-wal":
         os.remove(name)
 # A query that a row doesn't answer doesn't test it, and one that it answers does.
 holds("a bad row that isn't selected", run("bad.db", "find", "c", '{"_id":{"$lt":3}}'), (0, b"".join(line_of(document(i)) for i in range(3)), ""))

@@ -1,5 +1,6 @@
 #!/usr/bin/python3
-"""Holds what fallowtime answers from the pages that it needs against what it answers from the whole file, over files of many sorts.
+"""Holds what fallowtime answers from the pages that it needs, and what it changes in them, against what it answers from the whole file and
+changes in it, over files of many sorts.
 
     tests/pages.py PROGRAM [FILES [FIRST]]
 
@@ -7,7 +8,10 @@ PROGRAM is fallowtime, under whatever name. FILES is how many are made, 50 if no
 a file and its questions follow from its number. Each question is asked twice. Beside a log of more than 32 MiB the program reads the
 whole file and opens it as a database, so a copy of the files has zeros behind its log, which no reader takes for a part of it. Both
 answers have to be the same, byte for byte; only of a file with a damaged byte may pages answer where the whole file is refused. Nothing
-may be written. Ends with status 1 at the first that isn't as it should be. Wants sqlite3, Python's bson and strace.
+may be written. Then the file and a copy are changed, document by document: the file by commands, which need few pages, and the copy by
+sessions of one line each, which open it. Each change has to be answered alike, and both have to have the same rows, places and bytes
+after each; at the end sqlite3 finds nothing wrong with the file, and neither does `check`. Ends with status 1 at the first that isn't as it
+should be. Wants sqlite3, Python's bson and strace.
 """
 import atexit
 import collections
@@ -39,10 +43,11 @@ TABLE = ("CREATE TABLE documents (place INTEGER PRIMARY KEY, coll TEXT NOT NULL,
          "UNIQUE (coll, idkey)) STRICT")
 SIZES = [512, 1024, 2048, 4096, 4096, 8192, 16384, 32768, 65536]
 COLLECTIONS = ["a", "b", "orders", "zz", "é", "A" * 120]
-KINDS = ["plain", "deleted", "vacuum", "log", "killed", "other", "trigger", "leaves", "damage", "damage", "journal"]
+KINDS = ["plain", "deleted", "vacuum", "log", "killed", "older", "other", "trigger", "leaves", "damage", "damage", "journal"]
 # The kinds of files whose pages alone don't tell, whatever else they have.
 SLOW = {"other", "trigger", "leaves", "journal"}
 IDS = ["0", "1", "7", "59", "399", "100000", '"id3"', '{"a":5}', "0.0", "-0.0", '{"$numberLong":"7"}', '{"$oid":"%024x"}' % (3 * 7919)]
+CHANGES = ["insert", "insert", "put", "put", "replace", "set", "unset", "remove"]
 FILTERS = [[], ['{"s":"a"}'], ['{"n":{"$gte":3,"$lt":9}}'], ['{"_id":7}'], ['{"t":{"$exists":false}}'], ['{"n":{"$type":"int"}}']]
 
 
@@ -98,6 +103,13 @@ def kill_session(rng, file, names):
     session.wait()
 
 
+def leave_older_key(file, name):
+    """A document whose `_id` is a negative zero, under the key that a store gave it before the two zeros meant the same."""
+    run(file, "put", name, '{"_id":-0.0}')
+    by_sqlite(file, "UPDATE documents SET idkey = X'12000000015F696400000000000000008000' "
+                    "WHERE idkey = X'12000000015F696400000000000000000000'")
+
+
 def make(number):
     """A file, what kind it is of, the size of its pages and its collections."""
     rng = random.Random(number)
@@ -122,6 +134,8 @@ def make(number):
         leave_log(file, some)
     if kind == "killed":
         kill_session(rng, file, names)
+    if kind == "older":
+        leave_older_key(file, names[0])
     if kind == "other":
         by_sqlite(file, "CREATE TABLE more (a, b)", "INSERT INTO more VALUES (1, 2)")
     if kind == "trigger":
@@ -142,6 +156,62 @@ def questions(rng, names):
     asked = [["get", rng.choice(names), own, *rng.choice([[], ["--bson"], ["--canonical"]])] for own in rng.sample(IDS, 5)]
     asked += [[word, rng.choice(names), *rng.choice(FILTERS)] for word in ("find", "count") for _ in range(3)]
     return [*asked, ["export", rng.choice(names)], ["export", rng.choice(["none", ""])], ["collections"], ["find", ""]]
+
+
+def changes(rng, names):
+    """Commands that change one document, each as words and as a line, all but the odd one in a collection that is there."""
+    for _ in range(12):
+        word, name, own = rng.choice(CHANGES), rng.choice([*names, *names, "none"]), rng.choice(IDS)
+        text = json.dumps("x" * rng.choice([0, 1, 50, 2000, 70000]))
+        document = rng.choice([f'{{"_id":{own},"t":{text}}}', f'{{"t":{text},"_id":{own},"n":5}}'])
+        key = rng.choice(["s", "n", "t", "new", "_id"])
+        rest = {"set": [own, key, text], "unset": [own, key], "remove": [own]}.get(word, [document])
+        given = [part if part != key or word not in ("set", "unset") else json.dumps(key) for part in rest]
+        yield [word, name, *rest], "[" + ",".join([json.dumps(word), json.dumps(name), *given]) + "]"
+
+
+def rows_of(file):
+    """The rows of a file but for their keys, which an opening may renew; the file stays as it is."""
+    for part in parts(file):
+        shutil.copy(part, "look" + part[len(file):])
+    connection = sqlite3.connect("look")
+    found = connection.execute("SELECT place, coll, body FROM documents ORDER BY place").fetchall()
+    connection.close()
+    for part in parts("look"):
+        os.remove(part)
+    return found
+
+
+def refusal_in(done):
+    """Why a command or a session of one line is refused, or nothing, and whether the file was opened."""
+    if done[0]:
+        return done[2].split(b" ")[1].strip().decode() if done[2].startswith(b"refused: ") else done[2]
+    return json.loads(done[1]).get("error", "") if done[1].startswith(b'{"error"') else ""
+
+
+def hold_changes(told, rng, file, kind, names, found):
+    copy = f"copy-{file}"
+    for part in parts(file):
+        shutil.copy(part, "copy-" + part)
+    for words, line in changes(rng, names):
+        by_words, by_line = run(file, *words), run(copy, given=line.encode() + b"\n")
+        if by_line[0] and kind == "damage":
+            found["damaged files that sessions refuse"] += 1
+            break
+        if refusal_in(by_words) != refusal_in(by_line):
+            fail(told, f"{words}: {by_words!r}"[:700], f"in place of {by_line!r}"[:700])
+        if rows_of(file) != rows_of(copy):
+            fail(told, f"{words}: other rows than by a session"[:700])
+        found["refused changes" if refusal_in(by_words) else "changes"] += 1
+    else:
+        if run(file, "check") != run(copy, "check"):
+            fail(told, "check differs after the changes")
+        connection = sqlite3.connect(file)
+        if kind != "damage" and connection.execute("PRAGMA integrity_check").fetchall() != [("ok",)]:
+            fail(told, "sqlite3 finds faults after the changes")
+        connection.close()
+    for part in parts(copy):
+        os.remove(part)
 
 
 def read_whole(file, words):
@@ -186,6 +256,8 @@ def hold(number, found):
     if whole < (kind in SLOW):
         fail(f"file {number}, {kind}, pages of {size}: pages answer")
     found["answered by pages" if not whole else "read whole"] += 1
+    if kind != "journal":
+        hold_changes(f"file {number}, {kind}, pages of {size}:", rng, file, kind, names, found)
     for part in parts(file) + parts(copy):
         os.remove(part)
 

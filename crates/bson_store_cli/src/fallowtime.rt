@@ -1,6 +1,7 @@
 //! The program `fallowtime`: one command over a database file, or a session of requests.
 
-ghost use Rattle.std.specs.Prelude.{◌≡◌, ◌⊎◌, Err, None, Result, map, option_map, string_bytes};
+ghost use Rattle.std.specs.Prelude.{◌≡◌, ◌⊎◌, Err, IsTrue, None, Result, map, option_map, string_bytes};
+ghost use Rattle.sqlite_std_file.specs.File.{file_is_usable};
 ghost use Rattle.sqlite.specs.Held.{state};
 ghost use Rattle.store_table.specs.Crash.{AddsNothing};
 ghost use Rattle.store_table.specs.Moves.{WasOpen};
@@ -24,7 +25,10 @@ use crate::commands::judged;
 use crate::help;
 use bson_base::write_all;
 use bson_store::{ErrorKind, Sink, Source, Store};
-use cli_files::{FileError, close, copy, open_parts, open_within, read};
+use cli_files::{
+    FileError, close, copy, lock_within, open_parts, open_within, options_of_few, read,
+};
+use fallowtime_changes::{execute_in_pages, is_of_one};
 use fallowtime_commands::{Answer, Refusal, execute, export_all, look_up, print_found};
 use fallowtime_front::{Asked, Ended, asked_of, count_of, ended_of, form_of, tell};
 use fallowtime_help::{Packing, advice_on_query, packing_of, topic_of};
@@ -32,13 +36,13 @@ use fallowtime_requests::{Request, Unread};
 use fallowtime_texts::IdMaker;
 use fallowtime_wire::database_of;
 use fallowtime_words::{Argument, Command, Task, Words, read_words};
-use sqlite::{Alter, Connection};
-use sqlite_disk::{Start, Unknown};
+use sqlite::{Alter, Connection, FileFrom, Files, Start, Unknown};
 use std::alloc::Global;
 use std::hash::{BuildHasher, RandomState};
 use std::io::IsTerminal;
 use std::time::SystemTime;
 use std::{fs, io};
+use store_writer::Writer;
 
 /// How many seconds to wait for a file that another process has, if the words don't say.
 const PATIENCE: u64 = 5;
@@ -202,6 +206,53 @@ fn lacks_file(rt: &HostRuntime, words: &Words<'_>) -> bool {
     !words.command.makes_file() && is_missing(rt, words.file)
 }
 
+/// Whether a file is there and has something in it.
+fn has_bytes(rt: &HostRuntime, file: &str) -> bool {
+    match fs::metadata(rt, file) {
+        Ok(found) => found.len() > 0,
+        Err(_) => false,
+    }
+}
+
+/// Whether a change is one of a document that is named by its `_id`, in a file that may be a store.
+fn is_of_one_in(rt: &HostRuntime, file: &str, request: &Option<Request<'_>>) -> bool {
+    match request {
+        Some(request) => is_of_one(request) && has_bytes(rt, file),
+        None => false,
+    }
+}
+
+/// Does a command that changes one document in the pages that it needs; none, and nothing is changed or written, if
+/// they don't tell.
+fn change_in_pages<S: Start, O: Sink>(
+    rt: &HostRuntime,
+    files: Files<FileFrom<S>>,
+    words: &Words<'_>,
+    asked: &mut Asked<'_>,
+    output: &mut O,
+) -> Option<Result<(), Ended>>
+    requires log { IsTrue (file_is_usable S.Start files.log) }
+    requires db { IsTrue (file_is_usable S.Start files.db) }
+    requires output { CanRefuse (O.tally output.old) }
+    // Nothing is written if they don't tell.
+    ensures { result ≡ None → output.new ≡ output.old }
+{
+    let options = options_of_few(rt).ok()?;
+    let request = asked.request.as_mut()?;
+    let mut writer = Writer::open(rt.alloc(), files, options).ok()?;
+    let form = form_of(&words.options);
+    let done = execute_in_pages(
+        rt.alloc(),
+        &mut writer,
+        asked.collection,
+        request,
+        form,
+        output,
+    );
+    drop(writer.close());
+    Some(ended_of(done?, asked.lines.as_slice()))
+}
+
 /// Does a command that changes the file.
 fn change<O: Sink>(
     rt: &HostRuntime,
@@ -215,6 +266,15 @@ fn change<O: Sink>(
         return Err(Ended::File(FileError::NoFile));
     }
     let seconds = words.options.seconds.unwrap_or(PATIENCE);
+    if is_of_one_in(rt, words.file, &asked.request) {
+        let files = match lock_within(rt, words.file, seconds) {
+            Ok(files) => files,
+            Err(error) => return Err(Ended::File(error)),
+        };
+        if let Some(ended) = change_in_pages(rt, files, words, asked, output) {
+            return ended;
+        }
+    }
     match open_within(rt, words.file, seconds) {
         Ok(connection) => {
             let (ended, connection) = over(rt.alloc(), connection, words, asked, output);

@@ -14,6 +14,6 @@ pub use by_parts::{Moment, open_parts};
 pub use copying::{copy, reopened, whole, write_whole};
 pub use fault::FileError;
 pub use loaded::Loaded;
-pub use opening::{close, open, open_within};
+pub use opening::{close, lock_within, open, open_within, options_of_few};
 pub use reading::read;
 pub use reporting::{misuse, refuse, refuse_file, report_file, unread};

@@ -1,8 +1,11 @@
 //! Database files, opened with room in memory for their pages.
 
+ghost use Rattle.std.specs.Prelude.{IfOk, IsTrue};
+ghost use Rattle.sqlite_std_file.specs.File.{file_is_usable};
+
 use crate::fault::FileError;
 use crate::looking::plain;
-use sqlite::{Connection, File, FileStore, Options, Unknown};
+use sqlite::{Connection, File, FileFrom, FileStore, Files, Options, Start, Unknown};
 use std::hash::{BuildHasher, RandomState};
 use std::time::Duration;
 use std::{fs, io, thread};
@@ -57,16 +60,31 @@ fn judge_beside(rt: &HostRuntime, file: &str) -> Result<(), FileError> {
     Ok(())
 }
 
-/// Opens the database file at a path, which is made if it isn't there, and which no other process may have. A refused
-/// one is left as it is; an error says why.
-pub fn open(rt: &HostRuntime, path: &str) -> Result<Connection<FileStore<File>>, FileError> {
+/// The database file at a path, which is made if it isn't there, and its log: no other process may have them. A refused
+/// file is left as it is; an error says why.
+fn lock<S: Start>(rt: &HostRuntime, path: &str, start: S) -> Result<Files<FileFrom<S>>, FileError>
+    ensures log { IfOk result (λ files. IsTrue (file_is_usable S.Start files.log)) }
+    ensures db { IfOk result (λ files. IsTrue (file_is_usable S.Start files.db)) }
+{
     judge_name(path)?;
     match fs::canonicalize(rt, path) {
         Ok(file) => judge_beside(rt, file.as_str())?,
         Err(_) => judge_beside(rt, path)?,
     }
+    let files = sqlite_std_file::open(rt, path, start)?;
+    Ok(files)
+}
+
+/// The options of whoever needs few pages of a file, however large it is.
+pub fn options_of_few(rt: &HostRuntime) -> io::Result<Options> {
+    options_for(rt, LEAST_PAGES)
+}
+
+/// Opens the database file at a path, which is made if it isn't there, and which no other process may have. A refused
+/// one is left as it is; an error says why.
+pub fn open(rt: &HostRuntime, path: &str) -> Result<Connection<FileStore<File>>, FileError> {
     let options = options_for(rt, cache_pages(rt, path))?;
-    let files = sqlite_std_file::open(rt, path, Unknown)?;
+    let files = lock(rt, path, Unknown)?;
     match Connection::open_files(rt.alloc(), files, options) {
         Ok(connection) => Ok(connection),
         Err((error, left)) => {
@@ -74,6 +92,20 @@ pub fn open(rt: &HostRuntime, path: &str) -> Result<Connection<FileStore<File>>,
             Err(FileError::from(error))
         }
     }
+}
+
+/// As `lock`, but if another process has the file, it is tried again for `seconds` seconds, 20 times in each.
+pub fn lock_within(rt: &HostRuntime, path: &str, seconds: u64) -> Result<Files<File>, FileError>
+    ensures log { IfOk result (λ files. IsTrue (file_is_usable ⟦<Unknown as Start>⟧ files.log)) }
+    ensures db { IfOk result (λ files. IsTrue (file_is_usable ⟦<Unknown as Start>⟧ files.db)) }
+{
+    for _ in 0..seconds.saturating_mul(TRIES_A_SECOND) {
+        match lock(rt, path, Unknown) {
+            Err(FileError::Busy) => thread::sleep(rt, Duration::from_millis(PAUSE)),
+            other => return other,
+        }
+    }
+    lock(rt, path, Unknown)
 }
 
 /// As `open`, but if another process has the file, it is tried again for `seconds` seconds, 20 times in each.

@@ -3,8 +3,8 @@ mod AlterLemmas
 mod AskLemmas
 mod EarlyLemmas
 mod KeepLemmas
-mod PutLemmas
-mod SetLemmas
+pub mod PutLemmas
+pub mod SetLemmas
 mod ChangeLemmas
 mod FindingLemmas
 mod IndexLemmas

@@ -44,7 +44,7 @@ pub enum Answer {
 }
 
 /// A change returns nothing.
-pub(crate) fn nothing(outcome: Result<(), StoreError>) -> Result<Answer, StoreError>
+pub fn nothing(outcome: Result<(), StoreError>) -> Result<Answer, StoreError>
     ensures reply { reply_of result ≡ reply_by as_done outcome }
     ensures shape { IfOk result (λ a. a ≡ Nothing) }
 {
@@ -53,7 +53,7 @@ pub(crate) fn nothing(outcome: Result<(), StoreError>) -> Result<Answer, StoreEr
 }
 
 /// An insertion returns the `_id`, which is taken; after a refusal it stays.
-pub(crate) fn inserted(id: &mut Bson, outcome: Result<(), StoreError>) -> Result<Answer, StoreError>
+pub fn inserted(id: &mut Bson, outcome: Result<(), StoreError>) -> Result<Answer, StoreError>
     ensures reply { reply_of result ≡ reply_by as_done outcome }
     ensures shape { IfOk result (λ a. a ≡ Id id.old) }
 {
@@ -71,7 +71,7 @@ pub(crate) fn upserted(id: &mut Bson, outcome: Result<(), StoreError>) -> Result
 }
 
 /// Whether something was there.
-pub(crate) fn flag(outcome: Result<bool, StoreError>) -> Result<Answer, StoreError>
+pub fn flag(outcome: Result<bool, StoreError>) -> Result<Answer, StoreError>
     ensures reply { reply_of result ≡ reply_by as_flag outcome }
     ensures shape { IfOk result IsFlag }
 {

@@ -44,7 +44,7 @@ fn inserted_id<'a>(request: &'a Request<'_>) -> Option<&'a Bson>
 
 /// The text of the `_id` of a document that is to go into the collection `name`, or that may, made before it goes in,
 /// so that it is there to be printed whatever memory there is then. Empty for another request.
-fn insert_text(
+pub fn insert_text(
     alloc: Global,
     name: &str,
     request: &Request<'_>,
@@ -67,7 +67,7 @@ fn insert_text(
 
 /// Prints what a request returned, with the text `id` of the `_id` of what went in. Nothing is printed of one that was
 /// refused.
-pub(crate) fn print_outcome<O: Sink>(
+pub fn print_outcome<O: Sink>(
     alloc: Global,
     request: &Request<'_>,
     outcome: Result<Answer, StoreError>,

@@ -3,7 +3,7 @@
 #![tactic(auto)]
 
 mod altering;
-mod answer;
+pub mod answer;
 mod asking;
 mod changing;
 mod differing;
@@ -24,8 +24,10 @@ mod upserting;
 mod wanting;
 
 pub use answer::Answer;
-pub use executing::execute;
+pub use executing::{execute, insert_text, print_outcome};
 pub use looking::{export_all, look_up, print_found};
 pub use performing::perform;
 pub use printing::Form;
 pub use refusal::{Refusal, update_name};
+pub use setting::{can_be_set, with_value};
+pub use storing::kept_bytes;

@@ -21,7 +21,7 @@ use std::alloc::{AllocError, Global};
 use store_documents::{ID_KEY, document_of_body};
 
 /// Whether a key can be set: it isn't `_id` and holds no 00.
-fn can_be_set(key: &str) -> bool
+pub fn can_be_set(key: &str) -> bool
     ensures { IsTrue result ↔ IsFreeKey key.now }
 {
     key != ID_KEY && has_no_zero(key.as_bytes())
@@ -49,7 +49,7 @@ pub(crate) fn put_value(
 }
 
 /// The document of a body, with a value under a key.
-fn with_value(alloc: Global, body: &[u8], key: &str, value: Bson) -> Result<Document, ErrorKind>
+pub fn with_value(alloc: Global, body: &[u8], key: &str, value: Bson) -> Result<Document, ErrorKind>
     ensures { (d : Members) → IsKept d → body.now ≡ encode d
         → MatchResult result (λ e. content e ≡ put key.now (view value) d) (λ k. k ≡ Memory) }
 {

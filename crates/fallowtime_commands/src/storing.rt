@@ -33,7 +33,7 @@ fn unidentified(document: &Document) -> ErrorKind
 }
 
 /// The bytes of a document that a store can keep.
-pub(crate) fn kept_bytes(alloc: Global, document: &Document) -> Result<Vec<u8>, ErrorKind>
+pub fn kept_bytes(alloc: Global, document: &Document) -> Result<Vec<u8>, ErrorKind>
     ensures { MatchResult result (λ bytes. (bytes.items ≡ encode (content document.now))
         × IsFit (content document.now)) (λ k. IsUnkept (content document.now) k ⊎ (k ≡ Memory)) }
 {

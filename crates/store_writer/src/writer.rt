@@ -5,6 +5,7 @@ ghost use Rattle.std.specs.declared.alloc.Global.{Global as GlobalType};
 ghost use Rattle.sqlite_wal.specs.Files.{seen_image, outcomes};
 ghost use Rattle.sqlite_wal.specs.Reads.{AreClean};
 ghost use Rattle.sqlite_wal.specs.Recovery.{Image};
+ghost use Rattle.sqlite_wal.specs.State.{StaysOrFails};
 ghost use Rattle.sqlite_btree.specs.Cut.{IsIn};
 ghost use Rattle.sqlite_trees.specs.Tree.{Trees};
 ghost use Rattle.sqlite.specs.Effect.{Database};
@@ -247,6 +248,7 @@ impl<D: Disk + Drop> Writer<D> {
             → OnOk result (Leaves first self.new docs) }
         ensures crash { (first : Database) (docs : List TableRow) (made : List TableRow) → Leaves first self.old docs → Serves first self.old made
             → LeavesEither first self.new docs made }
+        ensures stays { StaysOrFails (state_of self.old) (state_of self.new) }
         ensures faults { IfErr result (λ e. e ≢ Places) }
     {
         // The trees' calls don't say that they keep it.

@@ -15,17 +15,17 @@ returns-in_err-body-clause-moves g c =
 
 pub returns-in-Ok-clause-moves : goal.returns-in-Ok-clause-moves
 returns-in-Ok-clause-moves g c =
-    applied_moves c.args.name.now (view c.args.id.now) (map plan_of c.args.steps.now) c.args.told (store_state g.S.Store c.args.store.now) (store_state g.S.Store c.get_raw.new.self) (store_state g.S.Store c.make.new.store)
-    c.in_ok-body.body.items c.in-Ok.edits.items c.make.result (λ d kept is. c.in-Ok.ensures d kept (rw c.as_slice.ensures.value is)) c.in_ok-body.ensures.moves (rw c.as_slice-in-Ok.ensures.value at c.make.ensures.moves)
+    applied_moves c.args.name.now (view c.args.id.now) (map plan_of c.args.steps.now) c.args.told (store_state g.S.Store c.args.store.now) (store_state g.S.Store c.get_raw.new.self) (store_state g.S.Store c.make-done.new.store)
+    c.in_ok-body.body.items c.in-Ok.edits.items c.make-done.result (λ d kept is. c.in-Ok.ensures d kept (rw c.as_slice.ensures.value is)) c.in_ok-body.ensures.moves (rw c.as_slice-in-Ok.ensures.value at c.make-done.ensures.moves)
 
 pub returns-in-Ok-clause-crash : goal.returns-in-Ok-clause-crash
 returns-in-Ok-clause-crash g c =
-    applied_leaves c.args.name.now (view c.args.id.now) (map plan_of c.args.steps.now) c.args.told (store_state g.S.Store c.args.store.now) (store_state g.S.Store c.get_raw.new.self) (store_state g.S.Store c.make.new.store)
-    c.in_ok-body.body.items c.in-Ok.edits.items c.make.result (λ d kept is. c.in-Ok.ensures d kept (rw c.as_slice.ensures.value is)) c.in_ok-body.ensures.moves c.in_ok-body.ensures.crash
-    (rw c.as_slice-in-Ok.ensures.value at c.make.ensures.moves) (rw c.as_slice-in-Ok.ensures.value at c.make.ensures.crash)
+    applied_leaves c.args.name.now (view c.args.id.now) (map plan_of c.args.steps.now) c.args.told (store_state g.S.Store c.args.store.now) (store_state g.S.Store c.get_raw.new.self) (store_state g.S.Store c.make-done.new.store)
+    c.in_ok-body.body.items c.in-Ok.edits.items c.make-done.result (λ d kept is. c.in-Ok.ensures d kept (rw c.as_slice.ensures.value is)) c.in_ok-body.ensures.moves c.in_ok-body.ensures.crash
+    (rw c.as_slice-in-Ok.ensures.value at c.make-done.ensures.moves) (rw c.as_slice-in-Ok.ensures.value at c.make-done.ensures.crash)
 
 pub returns-in-Ok-clause-shape : goal.returns-in-Ok-clause-shape
-returns-in-Ok-clause-shape g c = as_altered c.args.told c.as_slice-in-Ok.result.now c.make.result c.make.ensures.shape
+returns-in-Ok-clause-shape g c = as_altered c.args.told c.as_slice-in-Ok.result.now c.make-done.result c.make-done.ensures.shape
 
 pub returns-clause-moves : goal.returns-clause-moves
 returns-clause-moves g c =

@@ -1,4 +1,5 @@
 use Rattle.std.proofs.Common.{IsTrue, inl, inr, sym, ap, subst, ◌∙◌}
+use Rattle.sqlite_wal.proofs.StateLemmas.{StaysOrFails-trans}
 use Rattle.sqlite_pool.proofs.StateLemmas.{settled}
 use Rattle.sqlite_pool.specs.File.{version_in, SameButHeader}
 use Rattle.sqlite_pool.specs.Pool.{state, usable}
@@ -44,3 +45,9 @@ returns-in-Err-clause-crash g c first docs made all serves =
     (λ was. c.set_version.ensures.version ∙ c.stored_version-version.ensures (k.stays.was_open was) ∙ sym (ap version_in (k.committed was)))
     (λ image may. elim (c.commit.ensures.crash.crash image may) [ inl same ↦ inl same | inr new ↦ inr (new.0, (new.1.0, new.1.1, new.1.2, new.1.4)) ])
     (all_kept first old mid docs k all) has
+
+pub returns-in-Ok-clause-stays : goal.returns-in-Ok-clause-stays
+returns-in-Ok-clause-stays g c = StaysOrFails-trans _ _ _ c.set_version.ensures.keeps.stays c.commit.ensures.crash.stays
+
+pub returns-in-Err-clause-stays : goal.returns-in-Err-clause-stays
+returns-in-Err-clause-stays g c = StaysOrFails-trans _ _ _ c.set_version.ensures.keeps.stays c.commit.ensures.crash.stays
