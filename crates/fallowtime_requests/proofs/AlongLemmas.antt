@@ -1,7 +1,13 @@
 -- A path in the place of a key.
-use Rattle.std.proofs.Common.{◌≡◌, Bool, true, false, not, ap, refl, subst, sym}
-use Rattle.fallowtime_requests.specs.Along.{Along, AlongUnless, BecomesIf}
+use Rattle.std.proofs.Common.{◌≡◌, ℕ, List, Bool, true, false, not, Vec, ap, refl, subst, sym}
+use Rattle.std.specs.declared.alloc.Global.{Global}
+use Rattle.bson_model.specs.declared.bson.Bson.{Bson}
+use Rattle.fallowtime_requests.specs.Along.{Along, AlongUnless, BecomesIf, IsPlanned}
 use Rattle.fallowtime_requests.specs.declared.request.Request.{Request}
+use Rattle.fallowtime_requests.specs.declared.request.Request.TheVariants as request
+use Rattle.store_update.specs.Plan.{Change}
+use Rattle.store_update.specs.declared.operation.Step.{Step}
+use Rattle.store_update_read.specs.Outcome.{plans_of}
 
 -- it stays, or becomes what is said
 pub stays : (b : Bool) (was : Request) (P : Request → Type 0) → b ≡ false → BecomesIf b was P was
@@ -15,3 +21,10 @@ literally literal was is = stays (not literal) was (Along was) (ap not is)
 
 pub along_so : (literal : Bool) (was r : Request) → literal ≡ false → Along was r → AlongUnless literal was r
 along_so literal was r is along = becomes (not literal) was r (Along was) (ap not is) along
+
+-- the update that a key with a dot becomes
+pub becomes_update : (b : Bool) (was : Request) (id : Bson) (told : Bool) (operator key : List ℕ) (change : Change) (steps : Vec Step Global)
+    → b ≡ true → IsPlanned operator key change (plans_of steps)
+    → BecomesIf b was (λ s. (x : Vec Step Global) × IsPlanned operator key change (plans_of x) × (s ≡ request.Alter id x told)) (request.Alter id steps told)
+becomes_update b was id told operator key change steps is planned =
+    becomes b was (request.Alter id steps told) (λ s. (x : Vec Step Global) × IsPlanned operator key change (plans_of x) × (s ≡ request.Alter id x told)) is (steps, planned, refl)

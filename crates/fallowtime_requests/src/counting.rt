@@ -5,6 +5,7 @@ ghost use Rattle.json.specs.Value.{items_view, value_view as data_of};
 ghost use Rattle.fallowtime_requests.specs.Arranging.{AsksCounted, ReadsLine, StopsOptions, counts_of};
 ghost use Rattle.fallowtime_requests.specs.Inputs.{trees};
 ghost use Rattle.fallowtime_requests.specs.Reading.{KeepsMaker, Reads};
+ghost use Rattle.fallowtime_requests.specs.Requests.{with_counts};
 ghost use Rattle.fallowtime_words.specs.declared.command.Command.TheVariants as commands;
 
 use crate::options::flag_of;
@@ -16,6 +17,18 @@ use fallowtime_texts::IdMaker;
 use fallowtime_words::Command;
 use json::Value;
 use std::alloc::Global;
+
+/// The question, with counts, if so. (What lets a request go in one of its arms is dear to prove.)
+fn counted<'w>(question: Question<'w>, counts: bool) -> Question<'w>
+    ensures { (result.request ≡ with_counts counts question.entry.request) × (result.collection ≡ question.entry.collection)
+        × (result.layout ≡ question.entry.layout) }
+{
+    Question {
+        collection: question.collection,
+        request: question.request.with_counts(counts),
+        layout: question.layout,
+    }
+}
 
 /// What `distinct` asks for by a collection, a path, a query and an object of options.
 fn distinct_by_options<'w>(
@@ -33,11 +46,7 @@ fn distinct_by_options<'w>(
 {
     let question = question_of_items(alloc, Command::Distinct, items, maker, scratch)?;
     match flag_of("count", options) {
-        Some(counts) => Ok(Question {
-            collection: question.collection,
-            request: question.request.with_counts(counts),
-            layout: question.layout,
-        }),
+        Some(counts) => Ok(counted(question, counts)),
         None => Err(Stop::Words(Unread::Options)),
     }
 }

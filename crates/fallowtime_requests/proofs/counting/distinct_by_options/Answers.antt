@@ -14,7 +14,8 @@ same_maker m n gs name (request.Distinct p f b) l h = h.2
 same_maker m n gs name _ l h = absurd h
 
 pub returns-in-Some-clause-asked : goal.returns-in-Some-clause-asked
-returns-in-Some-clause-asked c = (c.in_ok-question.question.request, c.in-Some.counts, c.in_ok-question.ensures.asked, sym c.in-Some.ensures, c.with_counts.ensures)
+returns-in-Some-clause-asked c =
+    (c.in_ok-question.question.request, c.in-Some.counts, rw (c.counted.ensures.1, c.counted.ensures.2) c.in_ok-question.ensures.asked, sym c.in-Some.ensures, c.counted.ensures.0)
 
 pub returns-clause-maker : goal.returns-clause-maker
 returns-clause-maker c =
