@@ -1,6 +1,6 @@
 -- Changes of one document over a writer, in the words of the commands.
-use Rattle.std.proofs.Common.{◌≡◌, inl, inr, ℕ, List, Option, Some, None, Result, Ok, Err, refl, sym, subst}
-use Rattle.std.specs.Prelude.{IfSome}
+use Rattle.std.proofs.Common.{◌≡◌, inl, inr, ℕ, List, Bool, Option, Some, None, Result, Ok, Err, refl, sym, subst}
+use Rattle.std.specs.Prelude.{IfOk, IfSome, IsTrue}
 use Rattle.sqlite_disk.specs.declared.Disk.{Ghosts}
 use Rattle.sqlite_pool.specs.Stored.{Keeps}
 use Rattle.sqlite_wal.specs.State.{StaysOrFails}
@@ -17,20 +17,28 @@ use Rattle.store_model.specs.declared.error.ErrorKind.{ErrorKind}
 use Rattle.store_model.specs.declared.error.ErrorKind.TheVariants.{NotFound}
 use Rattle.store_model.specs.declared.error.StoreError.{StoreError}
 use Rattle.bson_store.specs.Calls.{Does, DoesBytes}
-use Rattle.bson_store.specs.Refusals.{as_done, reply_by}
+use Rattle.bson_store.specs.Refusals.{as_done, as_flag, reply_by}
 use Rattle.bson_store.specs.Shown.{Represents}
-use Rattle.store_writer.specs.Writer.{Leaves, Serves, size_of, state_of}
+use Rattle.store_writer.specs.Writer.{Serves, size_of, state_of}
 use Rattle.store_writer.specs.declared.writer.Writer.{Writer}
 use Rattle.store_change.specs.Changes.{LeavesBytes, Reads, Stays, Turned, Turns}
 use Rattle.store_change.proofs.TurnLemmas.{shows_before}
 use Rattle.store_change.proofs.WriteLemmas.{kept_itself, kept_left, stays_itself}
+use Rattle.fallowtime_commands.specs.Performing.{IsFlag, reply_of}
 use Rattle.fallowtime_commands.specs.Setting.{Sets}
 use Rattle.fallowtime_commands.specs.Storing.{HasReplaced, IsFit, IsStopped, Puts, Stores}
+use Rattle.fallowtime_commands.specs.declared.answer.Answer.{Answer}
+use Rattle.fallowtime_commands.specs.declared.answer.Answer.TheVariants as answer
 use Rattle.fallowtime_commands.proofs.SetLemmas.{got_document}
 use Rattle.fallowtime_changes.specs.Left.{LeavesPut, LeavesSet, LeavesStored}
 
-abbrev Done : Type 0
+abbrev pub Done : Type 0
 Done = Result (Unit {0}) StoreError
+
+-- a call whose clause has a premise
+pub given : {A : Type 0} (o : Option A) (F : Type 0) (P : A → Type 0) → F → IfSome o (λ r. F → P r) → IfSome o P
+given None F P f h = tt
+given (Some r) F P f h = h f
 
 module _ {D : Type 0} {g : Ghosts D} where
   -- nothing was done
@@ -50,12 +58,40 @@ module _ {D : Type 0} {g : Ghosts D} where
   turned_since first old mid new (Ok x) R docs k h = (h.0, h.1, λ all. h.2 (kept_left first old mid docs k all))
   turned_since first old mid new (Err e) R docs k h = h
 
+  -- what is returned of a call is as its outcome: accepted if that is, with the same reply
+  answered : {A : Type 0} (old new : Writer D g) (f : A → Reply) (r : Result A StoreError) (o : Result Answer StoreError) (R : Reply → List TableRow → List TableRow → Type 0) → reply_of o ≡ reply_by f r
+      → ((x : A) → IsRefusal (f x) → ⊥) → IfOk o (λ a. IsRefusal (reply_of (Ok a)) → ⊥) → Turns old new r (R (reply_by f r)) → Turns old new o (R (reply_of o))
+  answered old new f (Ok x) (Ok a) R same accepts shape h = λ clean first docs serves. let t = h clean first docs serves in (t.0, subst (λ y. R y docs t.0) (sym same) t.1, t.2)
+  answered old new f (Ok x) (Err e) R same accepts shape h = absurd (accepts x (subst IsRefusal same tt))
+  answered old new f (Err e) (Ok a) R same accepts shape h = absurd (shape (subst IsRefusal (sym same) tt))
+  answered old new f (Err e) (Err d) R same accepts shape h = λ clean first docs serves. subst (λ y. R y docs docs) (sym same) (h clean first docs serves)
+
+  -- an accepted one returns this
+  pub answered_done : (old new : Writer D g) (a : Answer) → (IsRefusal (reply_of (Ok a)) → ⊥) → (r : Done) (o : Result Answer StoreError) (R : Reply → List TableRow → List TableRow → Type 0) → reply_of o ≡ reply_by as_done r → IfOk o (λ b. b ≡ a)
+      → Turns old new r (R (reply_by as_done r)) → Turns old new o (R (reply_of o))
+  answered_done old new a accepts r o R same shape h = answered old new as_done r o R same (λ x refused. refused) (never o shape) h
+    where
+      never : (o : Result Answer StoreError) → IfOk o (λ b. b ≡ a) → IfOk o (λ b. IsRefusal (reply_of (Ok b)) → ⊥)
+      never (Ok b) is = subst (λ (y : Answer). IsRefusal (reply_of (Ok y)) → ⊥) (sym is) accepts
+      never (Err e) is = tt
+
+  pub answered_flag : (old new : Writer D g) (r : Result Bool StoreError) (o : Result Answer StoreError) (R : Reply → List TableRow → List TableRow → Type 0) → reply_of o ≡ reply_by as_flag r → IfOk o IsFlag → Turns old new r (R (reply_by as_flag r)) → Turns old new o (R (reply_of o))
+  answered_flag old new r o R same shape h = answered old new as_flag r o R same (λ x refused. refused) (never o shape) h
+    where
+      told : (a : Answer) → IsFlag a → IsRefusal (reply_of (Ok a)) → ⊥
+      told (answer.Flag b) is = λ refused. refused
+      told _ is = absurd is
+
+      never : (o : Result Answer StoreError) → IfOk o IsFlag → IfOk o (λ a. IsRefusal (reply_of (Ok a)) → ⊥)
+      never (Ok a) is = told a is
+      never (Err e) is = tt
+
   module _ (n b : List ℕ) (e : Members) (is : b ≡ encode e) where
     -- ---- a document that goes in by its bytes
 
     pub stored_turns : (old new : Writer D g) (call : Reading → Call) → IsFit e → (o : Option Done) → IfSome o (λ r. Turns old new r (DoesBytes n call b (reply_by as_done r))) → IfSome o (λ r. Turns old new r (Stores n call e (reply_by as_done r)))
     stored_turns old new call fit None h = tt
-    stored_turns old new call fit (Some r) h clean first docs serves =
+    stored_turns old new call fit (Some r) h = λ clean first docs serves.
         turned_as first old new r (DoesBytes n call b (reply_by as_done r)) (Stores n call e (reply_by as_done r)) docs (λ after does. inr (fit, subst (λ bs. DoesBytes n call bs (reply_by as_done r) docs after) is does)) (h clean first docs serves)
 
     pub stored_leaves : (old new : Writer D g) (call : Reading → Call) (o : Option Done) → IfSome o (λ r. LeavesBytes old new n call b (reply_by as_done r)) → IfSome o (λ r. LeavesStored old new n call e (reply_by as_done r))
@@ -72,10 +108,17 @@ module _ {D : Type 0} {g : Ghosts D} where
     pub put_leaves : (old new : Writer D g) (r : Reply) → HasReplaced r → LeavesBytes old new n (replace in_bytes) b r → LeavesPut old new n e r
     put_leaves old new r had h = inr (inl (had, λ x reads. h x (subst (λ bs. ReadsBytes bs x) (sym is) reads)))
 
-    module _ (old mid new : Writer D g) (i : Option ℕ) (stays : Stays old mid) (none : (first : Database) (docs : List TableRow) → Serves first old docs → Rattle.std.specs.Prelude.IsTrue (state_of mid).is_clean → DoesBytes n (replace in_bytes) b (refused NotFound i) docs docs) where
+    -- the replacement found none
+    pub found_none : (old mid : Writer D g) (r : Done) (error : StoreError) → r ≡ Err error → error.kind ≡ NotFound → Turns old mid r (DoesBytes n (replace in_bytes) b (reply_by as_done r))
+        → (first : Database) (docs : List TableRow) → Serves first old docs → IsTrue (state_of mid).is_clean → DoesBytes n (replace in_bytes) b (refused NotFound error.document) docs docs
+    found_none old mid r error same kind h first docs serves clean =
+        let turns = subst (λ (x : Done). Turns old mid x (DoesBytes n (replace in_bytes) b (reply_by as_done x))) same h in
+        subst (λ k. DoesBytes n (replace in_bytes) b (refused k error.document) docs docs) kind (turns clean first docs serves)
+
+    module _ (old mid new : Writer D g) (i : Option ℕ) (stays : Stays old mid) (none : (first : Database) (docs : List TableRow) → Serves first old docs → IsTrue (state_of mid).is_clean → DoesBytes n (replace in_bytes) b (refused NotFound i) docs docs) where
       pub insert_turns : IsFit e → StaysOrFails (state_of mid) (state_of new) → (o : Option Done) → IfSome o (λ r. Turns mid new r (DoesBytes n (insert in_bytes) b (reply_by as_done r))) → IfSome o (λ r. Turns old new r (Puts n e (reply_by as_done r)))
       insert_turns fit fails None h = tt
-      insert_turns fit fails (Some r) h clean first docs serves =
+      insert_turns fit fails (Some r) h = λ clean first docs serves.
           let early = fails.clean clean in
           let away = none first docs serves early in
           turned_since first old mid new r (Puts n e (reply_by as_done r)) docs stays.0
@@ -123,7 +166,7 @@ module _ {D : Type 0} {g : Ghosts D} where
 
       pub set_turns : (o : Option Done) → IfSome o (λ r. Turns mid new r (Stores n (replace in_bytes) e (reply_by as_done r))) → IfSome o (λ r. Turns old new r (Sets n id k v (reply_by as_done r)))
       set_turns None h = tt
-      set_turns (Some r) h clean first docs serves =
+      set_turns (Some r) h = λ clean first docs serves.
           let got = reads (fails.clean clean) first docs serves in
           turned_since first old mid new r (Sets n id k v (reply_by as_done r)) docs keeps
           (turned_as first mid new r (Stores n (replace in_bytes) e (reply_by as_done r)) (Sets n id k v (reply_by as_done r)) docs (λ after stores. sets docs after (reply_by as_done r) got.0 stores) (h clean first docs got.1))

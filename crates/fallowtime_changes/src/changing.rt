@@ -45,8 +45,10 @@ fn insert<D: Disk + Drop>(
     name: &str,
     document: &Document,
 ) -> Option<Result<(), StoreError>>
-    ensures turns { IfSome result (λ r. Turns writer.old writer.new r (Stores name.now (inserts in_bytes) (content document.now) (reply_by as_done r))) }
-    ensures crash { IfSome result (λ r. LeavesStored writer.old writer.new name.now (inserts in_bytes) (content document.now) (reply_by as_done r)) }
+    ensures turns { IfSome result (λ r. Turns writer.old writer.new r
+        (Stores name.now (inserts in_bytes) (content document.now) (reply_by as_done r))) }
+    ensures crash { IfSome result (λ r. LeavesStored writer.old writer.new
+        name.now (inserts in_bytes) (content document.now) (reply_by as_done r)) }
     ensures untold { result ≡ None → Keeps (state_of writer.old) (state_of writer.new) }
 {
     let Ok(bytes) = kept_bytes(alloc, document) else {
@@ -63,8 +65,10 @@ fn replace<D: Disk + Drop>(
     name: &str,
     document: &Document,
 ) -> Option<Result<(), StoreError>>
-    ensures turns { IfSome result (λ r. Turns writer.old writer.new r (Stores name.now (replaces in_bytes) (content document.now) (reply_by as_done r))) }
-    ensures crash { IfSome result (λ r. LeavesStored writer.old writer.new name.now (replaces in_bytes) (content document.now) (reply_by as_done r)) }
+    ensures turns { IfSome result (λ r. Turns writer.old writer.new r
+        (Stores name.now (replaces in_bytes) (content document.now) (reply_by as_done r))) }
+    ensures crash { IfSome result (λ r. LeavesStored writer.old writer.new
+        name.now (replaces in_bytes) (content document.now) (reply_by as_done r)) }
     ensures stays { StaysOrFails (state_of writer.old) (state_of writer.new) }
     ensures untold { result ≡ None → Keeps (state_of writer.old) (state_of writer.new) }
 {
@@ -82,8 +86,10 @@ fn put<D: Disk + Drop>(
     name: &str,
     document: &Document,
 ) -> Option<Result<(), StoreError>>
-    ensures turns { IfSome result (λ r. Turns writer.old writer.new r (Puts name.now (content document.now) (reply_by as_done r))) }
-    ensures crash { IfSome result (λ r. LeavesPut writer.old writer.new name.now (content document.now) (reply_by as_done r)) }
+    ensures turns { IfSome result (λ r. Turns writer.old writer.new r
+        (Puts name.now (content document.now) (reply_by as_done r))) }
+    ensures crash { IfSome result (λ r. LeavesPut writer.old writer.new
+        name.now (content document.now) (reply_by as_done r)) }
     ensures untold { result ≡ None → Keeps (state_of writer.old) (state_of writer.new) }
 {
     let Ok(kept) = kept_bytes(alloc, document) else {
@@ -111,8 +117,10 @@ fn set<D: Disk + Drop>(
     key: &str,
     value: &Bson,
 ) -> Option<Result<(), StoreError>>
-    ensures turns { IfSome result (λ r. Turns writer.old writer.new r (Sets name.now (view id.now) key.now (view value.now) (reply_by as_done r))) }
-    ensures crash { IfSome result (λ r. LeavesSet writer.old writer.new name.now (view id.now) key.now (view value.now) (reply_by as_done r)) }
+    ensures turns { IfSome result (λ r. Turns writer.old writer.new r
+        (Sets name.now (view id.now) key.now (view value.now) (reply_by as_done r))) }
+    ensures crash { IfSome result (λ r. LeavesSet writer.old writer.new
+        name.now (view id.now) key.now (view value.now) (reply_by as_done r)) }
     ensures untold { result ≡ None → Keeps (state_of writer.old) (state_of writer.new) }
 {
     if !can_be_set(key) {
@@ -142,8 +150,10 @@ fn unset_free<D: Disk + Drop>(
     id: &Bson,
     key: &str,
 ) -> Option<Result<bool, StoreError>>
-    ensures turns { IfSome result (λ r. Turns writer.old writer.new r (Does (on name.now (model_unset (view id.now) key.now)) (reply_by as_flag r))) }
-    ensures crash { IfSome result (λ r. LeavesCall writer.old writer.new name.now (model_unset (view id.now) key.now) (reply_by as_flag r)) }
+    ensures turns { IfSome result (λ r. Turns writer.old writer.new r
+        (Does (on name.now (model_unset (view id.now) key.now)) (reply_by as_flag r))) }
+    ensures crash { IfSome result (λ r. LeavesCall writer.old writer.new
+        name.now (model_unset (view id.now) key.now) (reply_by as_flag r)) }
     ensures untold { result ≡ None → Keeps (state_of writer.old) (state_of writer.new) }
 {
     if !can_be_set(key) {
@@ -165,8 +175,10 @@ pub fn change<D: Disk + Drop>(
     name: &str,
     request: &mut Request<'_>,
 ) -> Option<Result<Answer, StoreError>>
-    ensures turns { IfSome result (λ o. Turns writer.old writer.new o (Performs name.now request.old o)) }
-    ensures crash { IfSome result (λ o. LeavesRequest writer.old writer.new name.now request.old (reply_of o)) }
+    ensures turns { IfSome result (λ o. Turns writer.old writer.new o
+        (Performs name.now request.old o)) }
+    ensures crash { IfSome result (λ o. LeavesRequest writer.old writer.new
+        name.now request.old (reply_of o)) }
     ensures shape { IfSome result (λ o. IfOk o (IsAnswerTo request.old)) }
     ensures untold { result ≡ None → Keeps (state_of writer.old) (state_of writer.new) }
     ensures kept { result ≡ None → request.new ≡ request.old }

@@ -28,7 +28,8 @@ pub fn execute_in_pages<D: Disk + Drop, O: Sink>(
     output: &mut O,
 ) -> Option<Result<(), Refusal>>
     requires { CanRefuse (O.tally output.old) }
-    ensures executes { IfSome result (λ r. ExecutesInPages name.now request.old form (O.tally output.old) (O.tally output.new) r writer.old writer.new) }
+    ensures executes { IfSome result (λ r. ExecutesInPages name.now request.old form
+        (O.tally output.old) (O.tally output.new) r writer.old writer.new) }
     ensures untold { result ≡ None → Keeps (state_of writer.old) (state_of writer.new) }
     ensures kept { result ≡ None → request.new ≡ request.old }
     ensures silent { result ≡ None → output.new ≡ output.old }

@@ -12,7 +12,7 @@ mod ReplaceLemmas
 mod ReturnLemmas
 mod LookLemmas
 mod MeantLemmas
-mod OutcomeLemmas
+pub mod OutcomeLemmas
 mod TotalLemmas
 mod UpsertLemmas
 mod WantLemmas

@@ -1,26 +1,14 @@
-use Rattle.std.proofs.Common.{rules, ◌≡◌, IfOk, IfSome, None, ℕ, ◌+◌, ◌-◌, ◌*◌, ◌<◌, ◌≤◌, length, ◌/◌, ◌%◌, Bool, true, false, nat_eq, nat_lt, List, [], ◌∷◌, ◌++◌, slice_index_or, slice_set, bit_and, bit_or, Fits, w8, w32, w64, Bor, MutBor}
-use Rattle.bson_model.specs.View.{content, view}
-use Rattle.sqlite_wal.specs.State.{StaysOrFails}
-use Rattle.sqlite_pool.specs.Stored.{Keeps}
+use Rattle.std.proofs.Common.{◌∙◌}
+use Rattle.bson_model.specs.View.{content}
 use Rattle.store_model.specs.State.{in_bytes}
-use Rattle.store_model.specs.State.{insert as inserts}
-use Rattle.store_model.specs.State.{on}
-use Rattle.store_model.specs.State.{replace as replaces}
-use Rattle.store_model.specs.State.{unset as model_unset}
-use Rattle.bson_store.specs.Calls.{Does}
-use Rattle.bson_store.specs.Refusals.{as_done, as_flag, reply_by}
-use Rattle.store_writer.specs.Writer.{state_of}
-use Rattle.store_change.specs.Changes.{LeavesCall, Turns}
-use Rattle.fallowtime_commands.specs.Performing.{IsAnswerTo, Performs, reply_of}
-use Rattle.fallowtime_commands.specs.Setting.{Sets}
-use Rattle.fallowtime_commands.specs.Storing.{Puts, Stores}
-use Rattle.fallowtime_changes.specs.Left.{LeavesPut, LeavesRequest, LeavesSet, LeavesStored}
+use Rattle.store_model.specs.State as model
+use Rattle.fallowtime_changes.proofs.WayLemmas.{stored_leaves, stored_turns}
 use Rattle.fallowtime_changes.proofs.changing.insert.Goals as goal
 
--- src/changing.rt:41:1
 pub returns-clause-turns : goal.returns-clause-turns
-returns-clause-turns g c = ?
+returns-clause-turns g c =
+    stored_turns c.args.name.now c.as_slice.result.now (content c.args.document.now) (c.as_slice.ensures.value ∙ c.in-Ok.ensures.0) c.args.writer.now c.insert_raw.new.writer (model.insert in_bytes) c.in-Ok.ensures.1 c.insert_raw.result c.insert_raw.ensures.turns
 
--- src/changing.rt:41:1
 pub returns-clause-crash : goal.returns-clause-crash
-returns-clause-crash g c = ?
+returns-clause-crash g c =
+    stored_leaves c.args.name.now c.as_slice.result.now (content c.args.document.now) (c.as_slice.ensures.value ∙ c.in-Ok.ensures.0) c.args.writer.now c.insert_raw.new.writer (model.insert in_bytes) c.insert_raw.result c.insert_raw.ensures.crash
