@@ -20,8 +20,8 @@ use std::alloc::Global;
 
 /// The question, with counts, if so. (What lets a request go in one of its arms is dear to prove.)
 fn counted<'w>(question: Question<'w>, counts: bool) -> Question<'w>
-    ensures { (result.request ≡ with_counts counts question.entry.request) × (result.collection ≡ question.entry.collection)
-        × (result.layout ≡ question.entry.layout) }
+    ensures { (result.request ≡ with_counts counts question.entry.request)
+        × (result.collection ≡ question.entry.collection) × (result.layout ≡ question.entry.layout) }
 {
     Question {
         collection: question.collection,
