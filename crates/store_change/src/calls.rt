@@ -46,7 +46,8 @@ pub fn get_raw<D: Disk + Drop>(
     name: &str,
     id: &Bson,
 ) -> Option<Result<Vec<u8>, StoreError>>
-    ensures reads { IfSome result (λ r. Reads writer.old writer.new (Does (on name.now (get_raw (view id.now))) (reply_by as_bytes r))) }
+    ensures reads { IfSome result (λ r. Reads writer.old writer.new
+        (Does (on name.now (get_raw (view id.now))) (reply_by as_bytes r))) }
     ensures keeps { Keeps (state_of writer.old) (state_of writer.new) }
 {
     let name = Name::new(name)?;
@@ -68,8 +69,10 @@ pub fn insert_raw<D: Disk + Drop>(
     name: &str,
     bytes: &[u8],
 ) -> Option<Result<(), StoreError>>
-    ensures turns { IfSome result (λ r. Turns writer.old writer.new r (DoesBytes name.now (insert in_bytes) bytes.now (reply_by as_done r))) }
-    ensures crash { IfSome result (λ r. LeavesBytes writer.old writer.new name.now (insert in_bytes) bytes.now (reply_by as_done r)) }
+    ensures turns { IfSome result (λ r. Turns writer.old writer.new r
+        (DoesBytes name.now (insert in_bytes) bytes.now (reply_by as_done r))) }
+    ensures crash { IfSome result (λ r. LeavesBytes writer.old writer.new
+        name.now (insert in_bytes) bytes.now (reply_by as_done r)) }
     ensures stays { StaysOrFails (state_of writer.old) (state_of writer.new) }
     ensures untold { result ≡ None → Keeps (state_of writer.old) (state_of writer.new) }
 {
@@ -102,8 +105,10 @@ pub fn replace_raw<D: Disk + Drop>(
     name: &str,
     bytes: &[u8],
 ) -> Option<Result<(), StoreError>>
-    ensures turns { IfSome result (λ r. Turns writer.old writer.new r (DoesBytes name.now (replace in_bytes) bytes.now (reply_by as_done r))) }
-    ensures crash { IfSome result (λ r. LeavesBytes writer.old writer.new name.now (replace in_bytes) bytes.now (reply_by as_done r)) }
+    ensures turns { IfSome result (λ r. Turns writer.old writer.new r
+        (DoesBytes name.now (replace in_bytes) bytes.now (reply_by as_done r))) }
+    ensures crash { IfSome result (λ r. LeavesBytes writer.old writer.new
+        name.now (replace in_bytes) bytes.now (reply_by as_done r)) }
     // If there is none, the rows stay.
     ensures unfound { IfSome result (λ r. IsUnfound r → Stays writer.old writer.new) }
     ensures stays { StaysOrFails (state_of writer.old) (state_of writer.new) }
@@ -137,8 +142,10 @@ pub fn unset<D: Disk + Drop>(
     id: &Bson,
     key: &str,
 ) -> Option<Result<bool, StoreError>>
-    ensures turns { IfSome result (λ r. IsFreeKey key.now → Turns writer.old writer.new r (Does (on name.now (unset (view id.now) key.now)) (reply_by as_flag r))) }
-    ensures crash { IfSome result (λ r. IsFreeKey key.now → LeavesCall writer.old writer.new name.now (unset (view id.now) key.now) (reply_by as_flag r)) }
+    ensures turns { IfSome result (λ r. IsFreeKey key.now → Turns writer.old writer.new r
+        (Does (on name.now (unset (view id.now) key.now)) (reply_by as_flag r))) }
+    ensures crash { IfSome result (λ r. IsFreeKey key.now → LeavesCall writer.old writer.new
+        name.now (unset (view id.now) key.now) (reply_by as_flag r)) }
     ensures untold { result ≡ None → Keeps (state_of writer.old) (state_of writer.new) }
 {
     let name = Name::new(name)?;
@@ -171,8 +178,10 @@ pub fn remove<D: Disk + Drop>(
     name: &str,
     id: &Bson,
 ) -> Option<Result<(), StoreError>>
-    ensures turns { IfSome result (λ r. Turns writer.old writer.new r (Does (on name.now (remove (view id.now))) (reply_by as_done r))) }
-    ensures crash { IfSome result (λ r. LeavesCall writer.old writer.new name.now (remove (view id.now)) (reply_by as_done r)) }
+    ensures turns { IfSome result (λ r. Turns writer.old writer.new r
+        (Does (on name.now (remove (view id.now))) (reply_by as_done r))) }
+    ensures crash { IfSome result (λ r. LeavesCall writer.old writer.new
+        name.now (remove (view id.now)) (reply_by as_done r)) }
     ensures untold { result ≡ None → Keeps (state_of writer.old) (state_of writer.new) }
 {
     let name = Name::new(name)?;

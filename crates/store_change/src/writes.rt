@@ -20,9 +20,11 @@ use store_writer::Writer;
 ///
 /// Refused by Memory and Database.
 fn settle<D: Disk + Drop>(writer: &mut Writer<D>) -> Result<(), Fault>
-    ensures done { IsTrue (state_of writer.new).is_clean → (first : Database) (docs : List TableRow) → Serves first writer.old docs
+    ensures done { IsTrue (state_of writer.new).is_clean → (first : Database) (docs : List TableRow)
+        → Serves first writer.old docs
         → OnOk result (Leaves first writer.new docs) }
-    ensures crash { (first : Database) (docs : List TableRow) (made : List TableRow) → Leaves first writer.old docs → Serves first writer.old made
+    ensures crash { (first : Database) (docs : List TableRow) (made : List TableRow)
+        → Leaves first writer.old docs → Serves first writer.old made
         → LeavesEither first writer.new docs made }
     ensures stays { StaysOrFails (state_of writer.old) (state_of writer.new) }
     ensures faults { IfErr result (λ e. e ≢ Places) }
@@ -40,9 +42,14 @@ pub(crate) fn add<D: Disk + Drop>(
     key: &[u8],
     body: &[u8],
 ) -> Option<Result<(), Fault>>
-    ensures commits { IfSome result (λ r. IsTrue (state_of writer.new).is_clean → (first : Database) (docs : List TableRow) → Serves first writer.old docs
-        → find (is_row_named coll.now key.now) docs ≡ None → Committed first writer.old writer.new r docs (with_row coll.now key.now body.now docs)) }
-    ensures room { IfSome result (λ r. IsTrue (state_of writer.new).is_clean → (first : Database) (docs : List TableRow) → Serves first writer.old docs
+    ensures commits { IfSome result (λ r. IsTrue (state_of writer.new).is_clean
+        → (first : Database) (docs : List TableRow)
+        → Serves first writer.old docs
+        → find (is_row_named coll.now key.now) docs ≡ None
+        → Committed first writer.old writer.new r docs (with_row coll.now key.now body.now docs)) }
+    ensures room { IfSome result (λ r. IsTrue (state_of writer.new).is_clean
+        → (first : Database) (docs : List TableRow)
+        → Serves first writer.old docs
         → (IsRoomFor 1 docs × IfErr r (λ e. e ≢ Places)) ⊎ ((r ≡ Err Places) × ¬ IsRoomFor 1 docs)) }
     ensures stays { StaysOrFails (state_of writer.old) (state_of writer.new) }
     ensures untold { result ≡ None → Keeps (state_of writer.old) (state_of writer.new) }
@@ -65,8 +72,11 @@ pub(crate) fn rewrite<D: Disk + Drop>(
     key: &[u8],
     body: &[u8],
 ) -> Option<Result<(), Fault>>
-    ensures commits { IfSome result (λ r. IsTrue (state_of writer.new).is_clean → (first : Database) (docs : List TableRow) (was : List ℕ) → Serves first writer.old docs
-        → IsIn (row_at place coll.now key.now was) docs → Committed first writer.old writer.new r docs (with_body_at place body.now docs)) }
+    ensures commits { IfSome result (λ r. IsTrue (state_of writer.new).is_clean
+        → (first : Database) (docs : List TableRow) (was : List ℕ)
+        → Serves first writer.old docs
+        → IsIn (row_at place coll.now key.now was) docs
+        → Committed first writer.old writer.new r docs (with_body_at place body.now docs)) }
     ensures faults { IfSome result (λ r. IfErr r (λ e. e ≢ Places)) }
     ensures stays { StaysOrFails (state_of writer.old) (state_of writer.new) }
     ensures untold { result ≡ None → Keeps (state_of writer.old) (state_of writer.new) }
@@ -86,8 +96,11 @@ pub(crate) fn take_away<D: Disk + Drop>(
     coll: &[u8],
     key: &[u8],
 ) -> Option<Result<(), Fault>>
-    ensures commits { IfSome result (λ r. IsTrue (state_of writer.new).is_clean → (first : Database) (docs : List TableRow) (was : List ℕ) → Serves first writer.old docs
-        → IsIn (row_at place coll.now key.now was) docs → Committed first writer.old writer.new r docs (without_place place docs)) }
+    ensures commits { IfSome result (λ r. IsTrue (state_of writer.new).is_clean
+        → (first : Database) (docs : List TableRow) (was : List ℕ)
+        → Serves first writer.old docs
+        → IsIn (row_at place coll.now key.now was) docs
+        → Committed first writer.old writer.new r docs (without_place place docs)) }
     ensures faults { IfSome result (λ r. IfErr r (λ e. e ≢ Places)) }
     ensures stays { StaysOrFails (state_of writer.old) (state_of writer.new) }
     ensures untold { result ≡ None → Keeps (state_of writer.old) (state_of writer.new) }
