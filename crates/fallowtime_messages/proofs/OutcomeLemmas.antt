@@ -19,7 +19,7 @@ use Rattle.fallowtime_messages.specs.Answers as told
 use Rattle.fallowtime_messages.specs.Done.{DoesAll}
 use Rattle.fallowtime_messages.specs.Outcomes.{AreImports, AreMeant, Carries, CarriesOrStarts, Comes, InsertsOrStarts, IsImport, IsMeant, PutsAll, Starts, Tells, TellsFault, TellsWritten, joined, told_by, told_of}
 use Rattle.fallowtime_plans.specs.Plans.{Asks, IsRefused}
-use Rattle.fallowtime_messages.specs.Runs.{RunsTo, Sums, changes, counts, deed_of, errors_from, ids_from}
+use Rattle.fallowtime_messages.specs.Runs.{RunsTo, Sums, changes, counts, deed_of, ids_from}
 use Rattle.fallowtime_plans.specs.declared.asked.Plan.{Plan}
 use Rattle.fallowtime_plans.specs.declared.asked.Plan.TheVariants as plan
 use Rattle.fallowtime_plans.specs.declared.asked.Statement.{Statement}
