@@ -1,14 +1,15 @@
 #!/usr/bin/python3
-"""Runs MongoDB's tests of CRUD for drivers over the package for Python.
+"""Runs MongoDB's tests of CRUD for drivers over the package for Python, or over pymongo and the relay.
 
-tests/crud.py PROGRAM [--refused]
+tests/crud.py PROGRAM [--relay] [--refused]
 
 PROGRAM is the program under the name fallowtime. The tests are those of Debian's golang-mongodb-mongo-driver-dev, in
 both of their forms, v1 and unified; left out are those for servers before 5.0, of writes that aren't acknowledged and
-of servers that are made to fail. Each one passes, or is refused by name, as NotImplementedError, or is answered
-otherwise than MongoDB answers. Prints how many there are of each, and those that are answered otherwise, with --refused
-also why the others were refused. Ends with status 1 if one is answered otherwise, fewer pass than did before, or the
-page of the package names others as refused than are.
+of servers that are made to fail. Each one passes, or is refused by name, or is answered otherwise than MongoDB answers.
+Of the package a refusal is NotImplementedError. With --relay pymongo asks over `python -m fallowtime.serve`, and a
+refusal is one of the errors that docs/DRIVERS.md names, or what this pymongo can't ask for at all. Prints how many there
+are of each, and those that are answered otherwise, with --refused also why the others were refused. Ends with status 1
+if one is answered otherwise, fewer pass than did before, or the page of the package names others as refused than are.
 """
 import collections
 import json
@@ -18,24 +19,27 @@ import re
 import shutil
 import sys
 import tempfile
-import types
 
 ROOT = pathlib.Path(__file__).resolve().parent.parent
 PAGE = ROOT / "python" / "README.md"
 FOLDER = pathlib.Path("/usr/share/gocode/src/go.mongodb.org/mongo-driver/data/crud")
 # How many there are, and how many have to pass.
 COUNT = 202
-LEAST = 153
+IS_RELAYED = "--relay" in sys.argv[2:]
+LEAST = 107 if IS_RELAYED else 153
 # The version of MongoDB whose answers are wanted.
 VERSION = (5, 0)
 
-if not 2 <= len(sys.argv) <= 3 or sys.argv[2:] not in ([], ["--refused"]):
-    sys.exit("crud.py: the words are PROGRAM [--refused]")
+if len(sys.argv) < 2 or not {"--relay", "--refused"} >= set(sys.argv[2:]):
+    sys.exit("crud.py: the words are PROGRAM [--relay] [--refused]")
 os.environ["FALLOWTIME"] = os.path.abspath(sys.argv[1])
 sys.path.insert(0, str(ROOT / "python"))
 sys.dont_write_bytecode = True
 
-import fallowtime  # noqa: E402
+if IS_RELAYED:
+    import crud_relayed as kit  # noqa: E402
+else:
+    import crud_packaged as kit  # noqa: E402
 
 # A test: its file, its own line, the collections before it, its operations, and the collections behind it.
 Test = collections.namedtuple("Test", "file description before operations behind")
@@ -120,7 +124,7 @@ def argument(name, value):
     if name == "sort" or name == "hint" and isinstance(value, dict):
         return list(value.items())
     if name == "returnDocument":
-        return getattr(fallowtime.ReturnDocument, value.upper())
+        return getattr(kit.module.ReturnDocument, value.upper())
     return value
 
 
@@ -134,7 +138,7 @@ def named(arguments):
 def request_of(request):
     """One request of bulk_write."""
     name, arguments = (request["name"], request["arguments"]) if "name" in request else next(iter(request.items()))
-    kind = getattr(fallowtime, name[0].upper() + name[1:])
+    kind = getattr(kit.module, name[0].upper() + name[1:])
     return kind(**named(arguments))
 
 
@@ -142,26 +146,26 @@ def ask(store, operation):
     """The answer to an operation, as the tests write it."""
     thing = store if operation.collection is None else store[operation.collection]
     if operation.concern is not None:
-        thing = thing.with_options(read_concern=types.SimpleNamespace(**operation.concern))
+        thing = thing.with_options(read_concern=kit.concern(**operation.concern))
     method = getattr(thing, METHODS.get(operation.name, snake(operation.name)))
-    return written(method(**named(operation.arguments)))
+    return written(method(**kit.fitting(operation.name, named(operation.arguments))))
 
 
 def written(answer):
     """An answer as the tests write it."""
-    if isinstance(answer, fallowtime.UpdateResult):
+    if isinstance(answer, kit.results.UpdateResult):
         own = answer.upserted_id
         counts = {"matchedCount": answer.matched_count, "modifiedCount": answer.modified_count}
         return {**counts, "upsertedCount": 0} if own is None else {**counts, "upsertedCount": 1, "upsertedId": own}
-    if isinstance(answer, fallowtime.DeleteResult):
+    if isinstance(answer, kit.results.DeleteResult):
         return {"deletedCount": answer.deleted_count}
-    if isinstance(answer, fallowtime.InsertOneResult):
+    if isinstance(answer, kit.results.InsertOneResult):
         return {"insertedId": answer.inserted_id}
-    if isinstance(answer, fallowtime.InsertManyResult):
+    if isinstance(answer, kit.results.InsertManyResult):
         return {"insertedIds": {str(place): own for place, own in enumerate(answer.inserted_ids)}}
     if hasattr(answer, "bulk_api_result"):
         return written_bulk(answer.bulk_api_result)
-    return list(answer) if hasattr(answer, "to_list") else answer
+    return list(answer) if kit.is_cursor(answer) else answer
 
 
 def written_bulk(counts):
@@ -185,7 +189,7 @@ def fits(wanted, found, is_top=False):
         return all(fits(wanted.get(name), found.get(name)) for name in names)
     if isinstance(wanted, list) and isinstance(found, list):
         return len(wanted) == len(found) and all(fits(*pair) for pair in zip(wanted, found))
-    return type(wanted) is type(found) and wanted == found
+    return type(wanted) is kit.type_of(found) and wanted == found
 
 
 def hold_result(operation, found):
@@ -230,10 +234,11 @@ def run(store, test):
     for operation in test.operations:
         try:
             found = ask(store, operation)
-        except NotImplementedError as refused:
-            hold_documents(store, test.before)
-            return str(refused)
         except Exception as error:
+            if kit.is_refusal(error, operation.error):
+                if operation.name != "bulkWrite" or not IS_RELAYED:
+                    hold_documents(store, test.before)
+                return str(error)
             hold_error(operation, error)
             continue
         if operation.error is not None:
@@ -248,7 +253,7 @@ def run_all(folder):
     passed, refused, otherwise = 0, [], []
     for number, test in enumerate(read_tests()):
         title = f"{test.file}: {test.description}"
-        with fallowtime.open(folder / f"{number}.db") as store:
+        with kit.opened(folder, number) as store:
             try:
                 reason = run(store, test)
             except Otherwise as difference:
@@ -289,7 +294,7 @@ def main():
     if count != COUNT or passed < LEAST:
         print(f"crud.py: there are {COUNT} tests, of which {LEAST} passed before")
     by_file = collections.Counter(line.partition(":")[0] for line in refused)
-    is_page_right = by_file == named_on_page()
+    is_page_right = IS_RELAYED or by_file == named_on_page()
     if not is_page_right:
         print(f"crud.py: {PAGE} names other tests as refused than {dict(by_file)}")
     sys.exit(bool(otherwise) or count != COUNT or passed < LEAST or not is_page_right)

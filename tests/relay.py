@@ -25,6 +25,8 @@ import sys
 import threading
 import time
 
+import bson
+
 import relaying
 from relaying import HEADER, LONG, LONGEST, MORE_TO_COME, OP_MSG, ROOT, Line, Relay, compiled, fail, hello, holds, is_gone, message, wait_for
 
@@ -43,8 +45,9 @@ EXPECTED = {
 EXPECTED_OF_C = {
     "closed_cursor": "[1,3]", "find_one": "[1,5]", "find_none": "[0,0]", "sorted": "[2,587]", "long_insert": "20",
     "long_documents": "[20,190]", "drop": "1"}
-# MongoDB's numbers of a command and of a part of one that isn't there.
+# MongoDB's numbers of a command and of a part of one that isn't there, and the steps that ask for one.
 ABSENT = ("error 59", "error 238")
+LACKING = {"drop"}
 
 
 def store(folder, name="shop"):
@@ -85,7 +88,7 @@ def hold_driver(name, words, expected, is_standing_in):
     absent = []
     for step, wanted in expected.items():
         found = plain(lines[step])
-        if found in ABSENT and wanted not in ABSENT and not is_standing_in:
+        if found in ABSENT and step in LACKING and not is_standing_in:
             absent.append(step)
         elif found != wanted and not (step == "drop" and found == "null"):
             fail(f"{name}: {step} {found} in place of {wanted}")
@@ -108,6 +111,60 @@ def drivers(program, folder):
         holds("what the relay said", relay.errors(), "")
 
 
+# Changes.
+
+def writes(program, folder):
+    """Lists of changes, in the command and beside it: how many documents they were of, which aren't made and why, and that of what
+    can't be read nothing is done."""
+    relay = Relay(program, store(folder))
+    line = relay.line()
+
+    def change(name, key, statements, **more):
+        """The answer to a command with a list of statements in it, without `ok`, which is 1."""
+        answer = line.ask({name: "items", key: statements, "$db": "shop", **more})
+        holds(f"ok of {answer!r}", answer.pop("ok"), 1.0)
+        return {**answer, "writeErrors": [(one["index"], one["code"]) for one in answer["writeErrors"]]} if "writeErrors" in answer else answer
+
+    def is_refused(code, command, **lists):
+        before = line.ask({**FIND, "filter": {}})["cursor"]["firstBatch"]
+        answer = line.ask({**command, "$db": "shop"}, **lists)
+        holds(f"the refusal of {command!r}", (answer["ok"], answer["code"]), (0.0, code))
+        holds(f"the documents behind {command!r}", line.ask({**FIND, "filter": {}})["cursor"]["firstBatch"], before)
+
+    many = [{"_id": number, "a": number % 3} for number in range(9)]
+    holds("put in", change("insert", "documents", many), {"n": 9})
+    same = {"q": {"a": 1}, "u": {"$set": {"a": 1}}, "multi": True}
+    holds("what stays as it is", change("update", "updates", [same]), {"n": 3, "nModified": 0})
+    holds("one of several", change("update", "updates", [{"q": {"a": 1}, "u": {"$set": {"b": 1}}}]), {"n": 1, "nModified": 1})
+    holds("several", change("update", "updates", [{"q": {"a": 1}, "u": {"$set": {"b": 1}}, "multi": True}]), {"n": 3, "nModified": 2})
+    holds("a replacement", change("update", "updates", [{"q": {"_id": 0}, "u": {"c": bson.Int64(1)}}]), {"n": 1, "nModified": 1})
+    found = line.ask({**FIND, "filter": {"_id": 0}})["cursor"]["firstBatch"][0]
+    holds("its kinds", (found, type(found["c"])), ({"_id": 0, "c": 1}, bson.Int64))
+    upserts = [{"q": {"_id": 3}, "u": {"$inc": {"a": 5}}, "upsert": True}, {"q": {"_id": 20}, "u": {"$set": {"a": 1}}, "upsert": True},
+               {"q": {"a": 77}, "u": {"_id": 21}, "upsert": True}]
+    holds("upserts", change("update", "updates", upserts), {"n": 3, "nModified": 1, "upserted": [{"index": 1, "_id": 20}, {"index": 2, "_id": 21}]})
+    wrong = [{"q": {"_id": 4}, "u": {"$set": {"s": "x"}}}, {"q": {"_id": 4}, "u": {"$inc": {"s": 1}}}, {"q": {"_id": 5}, "u": {"$set": {"s": 1}}},
+             {"q": {"_id": 5}, "u": {"_id": 6}}]
+    holds("ordered ones", change("update", "updates", wrong), {"n": 1, "nModified": 1, "writeErrors": [(1, 14)]})
+    holds("unordered ones", change("update", "updates", wrong, ordered=False), {"n": 2, "nModified": 1, "writeErrors": [(1, 14), (3, 66)]})
+    holds("one removed", change("delete", "deletes", [{"q": {"a": 2}, "limit": 1}]), {"n": 1})
+    holds("several removed", change("delete", "deletes", [{"q": {"a": 2}, "limit": 0}, {"q": {"_id": {"$gte": 20}}, "limit": 0}]), {"n": 4})
+    answer = line.ask({"update": "items", "$db": "shop"}, updates=[{"q": {"_id": number}, "u": {"$set": {"z": 1}}} for number in (3, 4, 99)])
+    holds("beside the command", answer, {"n": 2, "nModified": 2, "ok": 1.0})
+    good = {"q": {"_id": 3}, "u": {"$set": {"z": 2}}}
+    for code, statement in ((2, {"q": {}, "u": {"$nosuch": {"a": 1}}}), (2, {"q": {"a": {"$nosuch": 1}}, "u": {"a": 1}}), (2, {"q": {}, "u": {"a": 1}, "multi": True}),
+                            (2, {"q": {}}), (2, {"u": {"$set": {"a": 1}}}), (2, {"q": {}, "u": [{"$set": {"a": 1}}]}), (40415, {**good, "nosuch": 1}),
+                            (238, {**good, "collation": {"locale": "de"}}), (238, {**good, "arrayFilters": [{"a": 1}]})):
+        is_refused(code, {"update": "items", "updates": [good, statement]})
+    for code, statement in (2, {"q": {}}), (2, {"limit": 0}), (2, {"q": {}, "limit": 2}), (2, {"q": {}, "limit": True}), (40415, {"q": {}, "limit": 0, "u": 1}):
+        is_refused(code, {"delete": "items", "deletes": [{"q": {"_id": 3}, "limit": 1}, statement]})
+    is_refused(20, {"update": "items", "updates": [good], "txnNumber": bson.Int64(1)})
+    is_refused(40415, {"update": "items"}, deletes=[good])
+    holds("what is left", count(relay, "items"), 6)
+    holds("the end", relay.end(), 0)
+    print("writes: lists of changes, what is refused of them, and that nothing is done then")
+
+
 # Bytes that are none of a driver's.
 
 def bases():
@@ -119,6 +176,10 @@ def bases():
         message(1, {"insert": "fresh", "$db": "shop"}, documents=items),
         message(1, {"insert": "fresh", "documents": items, "$db": "shop"}),
         message(1, {"insert": "fresh", "$db": "shop"}, flags=MORE_TO_COME, documents=items),
+        message(1, {"update": "fresh", "$db": "shop"}, updates=[{"q": {"_id": 1}, "u": {"$set": {"a": 1}}, "upsert": True}]),
+        message(1, {"delete": "fresh", "deletes": [{"q": {"text": "x"}, "limit": 1}], "$db": "shop"}),
+        message(1, {"findAndModify": "fresh", "query": {"_id": 1}, "update": {"$inc": {"a": 1}}, "new": True, "$db": "shop"}),
+        message(1, {"aggregate": "fresh", "pipeline": [{"$match": {}}, {"$group": {"_id": 1, "n": {"$sum": 1}}}], "cursor": {}, "$db": "shop"}),
         message(1, {"ping": 1, "$db": "admin"}, flags=MORE_TO_COME), message(1, {"nosuch": 1, "$db": "shop"})]
 
 
@@ -582,7 +643,7 @@ def rates(program, folder):
     print(f"rates: {told}" + ("" if is_at_rest else "; the machine has other work"))
 
 
-STEPS = [drivers, hostile, hanging, names, limits, room, faults, kills, lost_clients, stops, sockets, addresses, systemd, rates]
+STEPS = [drivers, writes, hostile, hanging, names, limits, room, faults, kills, lost_clients, stops, sockets, addresses, systemd, rates]
 
 
 def main():

@@ -393,6 +393,7 @@ fn answer_messages<S: Alter + Drop, I: Source, O: Sink>(
     alloc: Global,
     store: &mut Store<S>,
     database: &str,
+    maker: &IdMaker,
     input: &mut I,
     output: &mut O,
 ) -> Result<(), Ended>
@@ -401,7 +402,8 @@ fn answer_messages<S: Alter + Drop, I: Source, O: Sink>(
     ensures { AnswersMessages database.now (I.feed input.old) (I.feed input.new) (O.tally output.old)
         (O.tally output.new) result (store_state S.Store store.old) (store_state S.Store store.new) }
 {
-    match fallowtime_wire::serve(alloc, store, database, input, output) {
+    let mut own = maker.copy();
+    match fallowtime_wire::serve(alloc, store, &mut own, database, input, output) {
         Ok(()) => Ok(()),
         Err(kind) => Err(Ended::Refused(Refusal::from(kind))),
     }
@@ -424,7 +426,7 @@ fn answer<S: Alter + Drop, I: Source, O: Sink>(
 {
     match database {
         None => answer_lines(alloc, store, maker, input, output),
-        Some(database) => answer_messages(alloc, store, database, input, output),
+        Some(database) => answer_messages(alloc, store, database, maker, input, output),
     }
 }
 

@@ -3,7 +3,3 @@ pub mod DoneLemmas
 pub mod RunLemmas
 pub mod OutcomeLemmas
 pub mod ServeLemmas
-pub mod ListLemmas
-pub mod LineLemmas
-pub mod PlanLemmas
-pub mod GivenLemmas

@@ -1,10 +1,10 @@
 -- What comes of a command.
-use Rattle.std.proofs.Common.{◌≡◌, inl, inr, pos, ℕ, Bool, false, List, [], ◌∷◌, map, Option, Some, None, Result, Ok, Err, IfOk, Vec, String, string_bytes, refl, ap, sym, ◌∙◌, subst}
+use Rattle.std.proofs.Common.{◌≡◌, inl, inr, pos, ℕ, Bool, false, true, List, [], ◌∷◌, map, Option, Some, None, Result, Ok, Err, IfOk, Vec, String, string_bytes, refl, ap, sym, ◌∙◌, subst}
 use Rattle.std.specs.declared.alloc.AllocError.{AllocError}
 use Rattle.std.specs.declared.alloc.Global.{Global}
 use Rattle.sqlite.specs.State.{State}
 use Rattle.std.specs.List.{AllZip}
-use Rattle.bson_base.specs.Value.{Items, Members, no_items}
+use Rattle.bson_base.specs.Value.{Items, Members, Value, no_items}
 use Rattle.bson_model.specs.declared.bson.Bson.{Bson}
 use Rattle.bson_store.specs.Export.{bytes_of_each}
 use Rattle.bson_model.specs.View.{content, items_of, view}
@@ -13,22 +13,24 @@ use Rattle.bson_message.specs.declared.section.Sequence.{Sequence}
 use Rattle.store_model.specs.declared.error.StoreError.{StoreError}
 use Rattle.fallowtime_commands.specs.Performing.{IsAnswerTo}
 use Rattle.fallowtime_commands.specs.declared.answer.Answer.{Answer}
+use Rattle.fallowtime_commands.specs.declared.answer.Answer.TheVariants as answer
 use Rattle.fallowtime_session.specs.Deeds.{Deed, Did}
 use Rattle.fallowtime_messages.specs.Answers as told
 use Rattle.fallowtime_messages.specs.Done.{DoesAll}
-use Rattle.fallowtime_messages.specs.Outcomes.{AreImports, AreMeant, Carries, CarriesOrStarts, Comes, InsertsOrStarts, IsImport, IsMeant, IsRefused, PutsAll, Starts, Tells, TellsFault, TellsWritten, joined, told_by}
-use Rattle.fallowtime_messages.specs.Plans.{Asks}
-use Rattle.fallowtime_messages.specs.Runs.{RunsTo, Sums, changes, counts, deed_of, errors_from}
-use Rattle.fallowtime_messages.specs.declared.asked.Plan.{Plan}
-use Rattle.fallowtime_messages.specs.declared.asked.Plan.TheVariants as plan
-use Rattle.fallowtime_messages.specs.declared.asked.Statement.{Statement}
-use Rattle.fallowtime_messages.specs.declared.asked.Way.{Way}
-use Rattle.fallowtime_messages.specs.declared.fault.Code.{Code}
-use Rattle.fallowtime_messages.specs.declared.fault.Fault.{Fault}
-use Rattle.fallowtime_messages.specs.declared.fault.Fault.TheVariants.{Memory, Refused}
+use Rattle.fallowtime_messages.specs.Outcomes.{AreImports, AreMeant, Carries, CarriesOrStarts, Comes, InsertsOrStarts, IsImport, IsMeant, PutsAll, Starts, Tells, TellsFault, TellsWritten, joined, told_by, told_of}
+use Rattle.fallowtime_plans.specs.Plans.{Asks, IsRefused}
+use Rattle.fallowtime_messages.specs.Runs.{RunsTo, Sums, changes, counts, deed_of, ids_from}
+use Rattle.fallowtime_plans.specs.declared.asked.Plan.{Plan}
+use Rattle.fallowtime_plans.specs.declared.asked.Plan.TheVariants as plan
+use Rattle.fallowtime_plans.specs.declared.asked.Statement.{Statement}
+use Rattle.fallowtime_plans.specs.declared.asked.Way.{Way}
+use Rattle.fallowtime_plans.specs.declared.asked.Way.TheVariants as way
+use Rattle.fallowtime_plans.specs.declared.fault.Code.{Code}
+use Rattle.fallowtime_plans.specs.declared.fault.Fault.{Fault}
+use Rattle.fallowtime_plans.specs.declared.fault.Fault.TheVariants.{Memory, Refused}
 use Rattle.fallowtime_messages.specs.declared.writing.Written.{Written}
 use Rattle.fallowtime_messages.proofs.DoneLemmas.{none_done, one_before, one_done}
-use Rattle.fallowtime_messages.proofs.ListLemmas.{zip_seen}
+use Rattle.fallowtime_plans.proofs.ListLemmas.{zip_seen}
 use Rattle.fallowtime_messages.proofs.RunLemmas.{run_begins}
 
 -- ---- one thing
@@ -36,6 +38,21 @@ use Rattle.fallowtime_messages.proofs.RunLemmas.{run_begins}
 pub carried_one : (s : Statement) (w : Way) (o : Result Answer StoreError) (r : Result Document AllocError) (t u : State) → Did (Some (deed_of s o)) t u → IfOk o (IsAnswerTo s.request) → IfOk r (λ d. Tells w o (content d)) → DoesAll (CarriesOrStarts (plan.One s w) r) t u
 carried_one s w o (Ok d) t u did shape tells = (deed_of s o ∷ [], (deed_of s o, (refl, refl, shape), refl, tells), one_done t u (deed_of s o) did)
 carried_one s w o (Err e) t u did shape tells = (deed_of s o ∷ [], ((refl, refl, shape), tt), one_done t u (deed_of s o) did)
+
+-- those of a batch
+pub found_as : (r : Result Document AllocError) (text space : List ℕ) (vs ws : Items) → text ≡ space → vs ≡ ws → IfOk r (λ d. content d ≡ told.found text vs) → IfOk r (λ d. content d ≡ told.found space ws)
+found_as (Ok d) text space vs ws same are is = is ∙ ap (λ t. told.found t vs) same ∙ ap (told.found space) are
+found_as (Err e) text space vs ws same are is = tt
+
+-- different values
+pub values_told : (r : Result Document AllocError) (vs ws : List Value) → vs ≡ ws → IfOk r (λ d. content d ≡ told.values (items_of vs)) → IfOk r (λ d. content d ≡ told.values (items_of ws))
+values_told (Ok d) vs ws are is = is ∙ ap (λ xs. told.values (items_of xs)) are
+values_told (Err e) vs ws are is = tt
+
+-- the document that was found and changed
+pub changed_told : (r : Result Document AllocError) (removes : Bool) (body : Vec ℕ Global) (v : Value) → IsMeant body.items v → IfOk r (λ d. content d ≡ told.modified removes true v) → IfOk r (λ d. Tells (way.Modified removes) (Ok (answer.Found (Some body))) (content d))
+changed_told (Ok d) removes body v means is = (v, means, is)
+changed_told (Err e) removes body v means is = tt
 
 -- the documents of a batch
 pub found_told : (r : Result Document AllocError) (bodies : List (Vec ℕ Global)) (xs : List Bson) (space text : List ℕ) → AllZip (λ (b : Vec ℕ Global) (v : Bson). IsMeant b.items (view v)) bodies xs → text ≡ space
@@ -46,11 +63,20 @@ found_told (Err e) bodies xs space text zip same is = tt
 -- ---- changes
 
 -- so they are told
-told_written : (changed : Bool) (w : Written) (ds : List Deed) (m : Members) → Sums ds w → TellsWritten changed w m → m ≡ told.written changed (pos (counts ds)) (pos (changes ds)) (items_of (errors_from 0 ds))
+told_written : (changed : Bool) (w : Written) (ds : List Deed) (m : Members) → Sums ds w → TellsWritten changed w m → m ≡ told_of changed ds
 told_written changed w ds m sums tells =
-    tells ∙ ap (λ n. told.written changed (pos n) (pos w.changed) (items_of (map view w.errors.items))) sums.count
-    ∙ ap (λ n. told.written changed (pos (counts ds)) (pos n) (items_of (map view w.errors.items))) sums.changed
-    ∙ ap (λ vs. told.written changed (pos (counts ds)) (pos (changes ds)) (items_of vs)) sums.errors
+    tells ∙ ap (λ n. told.written changed (pos n) (pos w.changed) (items_of (map view w.ids.items)) (items_of (map view w.errors.items))) sums.count
+    ∙ ap (λ n. told.written changed (pos (counts ds)) (pos n) (items_of (map view w.ids.items)) (items_of (map view w.errors.items))) sums.changed
+    ∙ ap (λ vs. told.written changed (pos (counts ds)) (pos (changes ds)) (items_of vs) (items_of (map view w.errors.items))) sums.ids
+    ∙ ap (λ vs. told.written changed (pos (counts ds)) (pos (changes ds)) (items_of (ids_from 0 ds)) (items_of vs)) sums.errors
+
+module _ (ss : Vec Statement Global) (stops changed : Bool) (t u : State) where
+  pub all_written : (w : Written) (r : Result Document AllocError) → DoesAll (RunsTo stops ss.items (Ok w)) t u → IfOk r (λ d. TellsWritten changed w (content d)) → DoesAll (CarriesOrStarts (plan.Writes ss stops changed) r) t u
+  all_written w (Ok d) (ds, (run, sums), moves) tells = (ds, (run, told_written changed w ds (content d) sums tells), moves)
+  all_written w (Err e) (ds, (run, sums), moves) tells = (ds, run_begins stops ss.items ds run, moves)
+
+  pub some_written : (x e : AllocError) → DoesAll (RunsTo stops ss.items (Err x)) t u → DoesAll (CarriesOrStarts (plan.Writes ss stops changed) (Err e)) t u
+  some_written x e (ds, begins, moves) = (ds, begins, moves)
 
 -- ---- insertions
 
@@ -61,7 +87,7 @@ module _ (name : List ℕ) (documents : List (List ℕ)) (stops : Bool) where
 
   module _ (s : Statement) (t u : State) (is : IsImport name (joined documents) s) where
     -- all were
-    pub all_put : (n : ℕ) (o : Option ℕ) (r : Result Document AllocError) → o ≡ Some n → PutsAll s o t u → IfOk r (λ d. content d ≡ told.written false (pos n) (pos 0) no_items) → DoesAll (InsertsOrStarts name documents stops r) t u
+    pub all_put : (n : ℕ) (o : Option ℕ) (r : Result Document AllocError) → o ≡ Some n → PutsAll s o t u → IfOk r (λ d. content d ≡ told.written false (pos n) (pos 0) no_items no_items) → DoesAll (InsertsOrStarts name documents stops r) t u
     all_put n o (Ok x) some (d, deed, number, did) tells = (d ∷ [], (s, d, [], is, deed, refl, inl (n, sym number ∙ some, refl, tells)), one_done t u d did)
     all_put n o (Err e) some (d, deed, number, did) tells = (d ∷ [], inr (s, d, [], is, deed, refl, inl refl), one_done t u d did)
 
@@ -89,6 +115,7 @@ carried_told d t = ([], (refl, refl), none_done t)
 starts : (p : Plan) (ds : List Deed) (m : Members) → Carries p ds m → Starts p ds
 starts (plan.Told d) ds m h = h.0
 starts (plan.One s w) ds m (d, deed, one, tells) = subst (λ xs. Starts (plan.One s w) xs) (sym one) (deed, tt)
+starts (plan.Writes ss stops changed) ds m h = run_begins stops ss.items ds h.0
 starts (plan.Inserts name documents stops) ds m (s, d, rest, is, deed, split, inl all) = inr (s, d, rest, is, deed, split, inl all.2)
 starts (plan.Inserts name documents stops) ds m (s, d, rest, is, deed, split, inr (none, (ss, are, run), tells)) = inr (s, d, rest, is, deed, split, inr (none, (ss, are, run_begins stops ss rest run)))
 

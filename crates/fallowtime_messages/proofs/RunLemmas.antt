@@ -10,8 +10,8 @@ use Rattle.fallowtime_commands.specs.Performing.{IsAnswerTo, Performs, reply_of}
 use Rattle.fallowtime_commands.specs.declared.answer.Answer.{Answer}
 use Rattle.fallowtime_session.specs.Deeds.{Deed, Did}
 use Rattle.fallowtime_messages.specs.Done.{DidAll, DoesAll}
-use Rattle.fallowtime_messages.specs.Runs.{Adds, AllGoOn, AreRun, Begin, IsDeedOf, Keeps, RunsTo, StopsAtOne, Sums, WritesOne, changed_of, changes, count_of, counts, deed_of, errors_from, errors_of, is_refused}
-use Rattle.fallowtime_messages.specs.declared.asked.Statement.{Statement}
+use Rattle.fallowtime_messages.specs.Runs.{Adds, AllGoOn, AreRun, Begin, IsDeedOf, Keeps, RunsTo, StopsAtOne, Sums, WritesOne, changed_of, changes, count_of, counts, deed_of, errors_from, errors_of, ids_from, ids_of, is_refused}
+use Rattle.fallowtime_plans.specs.declared.asked.Statement.{Statement}
 use Rattle.fallowtime_messages.specs.declared.writing.Written.{Written}
 use Rattle.fallowtime_messages.proofs.DoneLemmas.{none_done, one_more}
 
@@ -79,11 +79,21 @@ errors-snoc i (x ∷ ds) d =
     ap (λ vs. errors_of i x.outcome ++ vs) (errors-snoc (i + 1) ds d ∙ ap (λ vs. errors_from (i + 1) ds ++ vs) (errors_at ((i + 1) + length ds) (i + suc (length ds)) d.outcome (omega arith)))
     ∙ sym (append_assoc (errors_of i x.outcome) (errors_from (i + 1) ds) (errors_of (i + suc (length ds)) d.outcome))
 
+ids_at : (i j : ℕ) (o : Result Answer StoreError) → i ≡ j → ids_of i o ≡ ids_of j o
+ids_at i j o same = ap (λ n. ids_of n o) same
+
+ids-snoc : (i : ℕ) (ds : List Deed) (d : Deed) → ids_from i (ds ++ d ∷ []) ≡ ids_from i ds ++ ids_of (i + length ds) d.outcome
+ids-snoc i [] d = append-nil (ids_of i d.outcome) ∙ ids_at i (i + 0) d.outcome (omega arith)
+ids-snoc i (x ∷ ds) d =
+    ap (λ vs. ids_of i x.outcome ++ vs) (ids-snoc (i + 1) ds d ∙ ap (λ vs. ids_from (i + 1) ds ++ vs) (ids_at ((i + 1) + length ds) (i + suc (length ds)) d.outcome (omega arith)))
+    ∙ sym (append_assoc (ids_of i x.outcome) (ids_from (i + 1) ds) (ids_of (i + suc (length ds)) d.outcome))
+
 sums_on : (ds : List Deed) (d : Deed) (old new : Written) → Sums ds old → Adds d.outcome old new → Sums (ds ++ d ∷ []) new
 sums_on ds d old new sums adds = record {
   place = grind (arith, length-append, sums.place, adds.place);
   count = (let h = counts-snoc ds d in omega (arith, h, sums.count, adds.count));
   changed = (let h = changes-snoc ds d in omega (arith, h, sums.changed, adds.changed));
+  ids = adds.ids ∙ ap (λ vs. vs ++ ids_of old.place d.outcome) sums.ids ∙ ap (λ vs. ids_from 0 ds ++ vs) (ids_at old.place (0 + length ds) d.outcome (omega (arith, sums.place))) ∙ sym (ids-snoc 0 ds d);
   errors = adds.errors ∙ ap (λ vs. vs ++ errors_of old.place d.outcome) sums.errors ∙ ap (λ vs. errors_from 0 ds ++ vs) (errors_at old.place (0 + length ds) d.outcome (omega (arith, sums.place))) ∙ sym (errors-snoc 0 ds d);
 }
 

@@ -1,28 +1,14 @@
--- Values of commands and of answers.
-use Rattle.std.proofs.Common.{◌≡◌, ◌↔◌, ◌==◌, ℕ, suc, ℤ, pos, Bool, true, false, IsTrue, List, [], ◌∷◌, length, map, codes, Option, Some, None, is_some, unwrap_or, Result, Ok, Err, IfOk, refl, ap, ◌∙◌, if◌then◌else◌, ne_eqb}
+-- Values of answers.
+use Rattle.std.proofs.Common.{◌≡◌, ℕ, ℤ, pos, List, [], ◌∷◌, map, codes, Option, Some, None, is_some, unwrap_or, Result, Ok, Err, IfOk, refl, ap, ◌∙◌, if◌then◌else◌}
 use Rattle.std.specs.declared.alloc.AllocError.{AllocError}
-use Rattle.bson_base.specs.Value.{Value, array, document, double, int32, scalar}
+use Rattle.bson_base.specs.Value.{Value, array, double, int32, scalar}
 use Rattle.bson_pairs.specs.Keyed.{Key, put}
 use Rattle.bson_model.specs.View.{content, items_of, members_of, pairs_of, view}
 use Rattle.bson_model.specs.declared.bson.Bson.{Bson}
 use Rattle.bson_model.specs.declared.document.Document.{Document}
 use Rattle.fallowtime_messages.specs.Answers as told
-use Rattle.fallowtime_messages.specs.Answers.{after_changed, after_errors}
-use Rattle.fallowtime_messages.specs.Fields.{is_empty}
-
--- a document without members asks for nothing
-pub empty_document : (b : Bool) (ps : List (Key × Value)) → (IsTrue b ↔ (ps ≡ [])) → b ≡ is_empty (document (members_of ps))
-empty_document b [] h = h.1 refl
-empty_document true (p ∷ ps) h = let e = h.0 refl in absurd cc
-empty_document false (p ∷ ps) h = refl
-
-not_empty : (v : Bson) (vs : List Bson) → (length (v ∷ vs) == 0) ≡ false
-not_empty v vs = ne_eqb (suc (length vs)) 0 (λ h. absurd cc)
-
--- nor does an array without items
-pub empty_array : (n : ℕ) (vs : List Bson) → n ≡ length vs → (n == 0) ≡ is_empty (array (items_of (map view vs)))
-empty_array n [] e = ap (λ k. k == 0) e
-empty_array n (v ∷ vs) e = ap (λ k. k == 0) e ∙ not_empty v vs
+use Rattle.fallowtime_messages.specs.Answers.{after_changed, after_list}
+use Rattle.fallowtime_plans.proofs.ValueLemmas.{not_empty}
 
 -- the answer to changes
 abbrev one : Value
@@ -31,14 +17,41 @@ one = scalar (double 4607182418800017408)
 abbrev head : ℤ → List (Key × Value)
 head n = put (codes "n") (scalar (int32 n)) []
 
-written_seen : (n : ℤ) (c : Option ℤ) (xs : List Bson)
-    → members_of (put (codes "ok") (scalar (double 4607182418800017408)) (after_errors xs (after_changed c (put (codes "n") (scalar (int32 n)) [])))) ≡ told.written (is_some c) n (unwrap_or c (pos 0)) (items_of (map view xs))
-written_seen n None [] = refl
-written_seen n None (x ∷ xs) = ap (λ b. members_of (put (codes "ok") one (if b then head n else put (codes "writeErrors") (array (items_of (map view (x ∷ xs)))) (head n)))) (not_empty x xs)
-written_seen n (Some m) [] = refl
-written_seen n (Some m) (x ∷ xs) = ap (λ b. members_of (put (codes "ok") one (if b then put (codes "nModified") (scalar (int32 m)) (head n) else put (codes "writeErrors") (array (items_of (map view (x ∷ xs)))) (put (codes "nModified") (scalar (int32 m)) (head n))))) (not_empty x xs)
+abbrev after : Option ℤ → ℤ → List (Key × Value)
+after c n = after_changed c (head n)
 
-pub told_written : (r : Result Document AllocError) (ps : List (Key × Value)) (n : ℤ) (c : Option ℤ) (xs : List Bson) → ps ≡ after_errors xs (after_changed c (put (codes "n") (scalar (int32 n)) []))
-    → IfOk r (λ d. pairs_of d ≡ put (codes "ok") (scalar (double 4607182418800017408)) ps) → IfOk r (λ d. content d ≡ told.written (is_some c) n (unwrap_or c (pos 0)) (items_of (map view xs)))
-told_written (Ok d) ps n c xs is done = ap members_of (done ∙ ap (put (codes "ok") (scalar (double 4607182418800017408))) is) ∙ written_seen n c xs
-told_written (Err e) ps n c xs is done = tt
+after-cons : (key : List ℕ) (x : Bson) (xs : List Bson) (ps : List (Key × Value)) → after_list key (x ∷ xs) ps ≡ put key (array (items_of (map view (x ∷ xs)))) ps
+after-cons key x xs ps = ap (λ b. if b then ps else put key (array (items_of (map view (x ∷ xs)))) ps) (not_empty x xs)
+
+abbrev listed : List Bson → List Bson → List (Key × Value) → List (Key × Value)
+listed us es ps = put (codes "ok") one (after_list (codes "writeErrors") es (after_list (codes "upserted") us ps))
+
+-- with the lists as they are
+abbrev plainly : List Bson → List Bson → List (Key × Value) → List (Key × Value)
+plainly [] [] ps = put (codes "ok") one ps
+plainly [] (e ∷ es) ps = put (codes "ok") one (put (codes "writeErrors") (array (items_of (map view (e ∷ es)))) ps)
+plainly (u ∷ us) [] ps = put (codes "ok") one (put (codes "upserted") (array (items_of (map view (u ∷ us)))) ps)
+plainly (u ∷ us) (e ∷ es) ps = put (codes "ok") one (put (codes "writeErrors") (array (items_of (map view (e ∷ es)))) (put (codes "upserted") (array (items_of (map view (u ∷ us)))) ps))
+
+is_plainly : (us es : List Bson) (ps : List (Key × Value)) → listed us es ps ≡ plainly us es ps
+is_plainly [] [] ps = refl
+is_plainly [] (e ∷ es) ps = ap (put (codes "ok") one) (after-cons (codes "writeErrors") e es ps)
+is_plainly (u ∷ us) [] ps = ap (put (codes "ok") one) (after-cons (codes "upserted") u us ps)
+is_plainly (u ∷ us) (e ∷ es) ps =
+    ap (λ qs. put (codes "ok") one (after_list (codes "writeErrors") (e ∷ es) qs)) (after-cons (codes "upserted") u us ps)
+    ∙ ap (put (codes "ok") one) (after-cons (codes "writeErrors") e es (put (codes "upserted") (array (items_of (map view (u ∷ us)))) ps))
+
+written_plainly : (n : ℤ) (c : Option ℤ) (us es : List Bson) → members_of (plainly us es (after c n)) ≡ told.written (is_some c) n (unwrap_or c (pos 0)) (items_of (map view us)) (items_of (map view es))
+written_plainly n None [] [] = refl
+written_plainly n None [] (e ∷ es) = refl
+written_plainly n None (u ∷ us) [] = refl
+written_plainly n None (u ∷ us) (e ∷ es) = refl
+written_plainly n (Some m) [] [] = refl
+written_plainly n (Some m) [] (e ∷ es) = refl
+written_plainly n (Some m) (u ∷ us) [] = refl
+written_plainly n (Some m) (u ∷ us) (e ∷ es) = refl
+
+pub told_written : (r : Result Document AllocError) (ps : List (Key × Value)) (n : ℤ) (c : Option ℤ) (us es : List Bson) → ps ≡ after_list (codes "writeErrors") es (after_list (codes "upserted") us (after_changed c (put (codes "n") (scalar (int32 n)) [])))
+    → IfOk r (λ d. pairs_of d ≡ put (codes "ok") (scalar (double 4607182418800017408)) ps) → IfOk r (λ d. content d ≡ told.written (is_some c) n (unwrap_or c (pos 0)) (items_of (map view us)) (items_of (map view es)))
+told_written (Ok d) ps n c us es is done = ap members_of (done ∙ ap (put (codes "ok") (scalar (double 4607182418800017408))) is ∙ is_plainly us es (after c n)) ∙ written_plainly n c us es
+told_written (Err e) ps n c us es is done = tt

@@ -1,41 +1,13 @@
--- The documents that commands are answered with (MongoDB's manual, the page of each command).
+-- The documents that tell what the store returned (MongoDB's manual, the page of each command).
 use Rattle.std.specs.Prelude.{ℕ, ℤ, pos, ◌-◌, ◌==◌, min, Bool, true, false, if◌then◌else◌, List, length, map, codes, Option, Some, None}
 use Rattle.bson_pairs.specs.Keyed.{Key, put}
 use Rattle.bson_model.specs.View.{items_of, view}
 use Rattle.bson_model.specs.declared.bson.Bson.{Bson}
-use Rattle.fallowtime_messages.specs.Codes.{code_name, code_number}
-use Rattle.fallowtime_messages.specs.declared.fault.Code.{Code}
-use Rattle.fallowtime_messages.specs.declared.fault.Code.TheVariants as code
+use Rattle.fallowtime_plans.specs.Codes.{code_name, code_number}
+use Rattle.fallowtime_plans.specs.Told.{done}
+use Rattle.fallowtime_plans.specs.declared.fault.Code.{Code}
+use Rattle.fallowtime_plans.specs.declared.fault.Code.TheVariants as code
 use Rattle.bson_base.specs.Value.{Value, Items, Members, array, boolean, document, double, int32, int64, item, member, no_items, no_members, scalar, string}
-
--- a command that was done ends its answer so: the double 1.0
-abbrev pub done : Members
-done = member (codes "ok") (scalar (double 4607182418800017408)) no_members
-
-abbrev pub whole : ℕ → Value
-whole n = scalar (int32 (pos n))
-
-abbrev pub yes : Value
-yes = scalar (boolean true)
-
--- A server that stands alone, so that no driver sends a transaction or asks for one thing twice ("hello"): the limits of a document, a
--- message and a list, half an hour for a session, and the wire versions up to that of MongoDB 4.4.
-abbrev pub hello : Members
-hello =
-    member (codes "helloOk") yes (member (codes "ismaster") yes (member (codes "isWritablePrimary") yes
-    (member (codes "maxBsonObjectSize") (whole 16777216) (member (codes "maxMessageSizeBytes") (whole 48000000) (member (codes "maxWriteBatchSize") (whole 100000)
-    (member (codes "logicalSessionTimeoutMinutes") (whole 30) (member (codes "minWireVersion") (whole 0) (member (codes "maxWireVersion") (whole 9)
-    (member (codes "readOnly") (scalar (boolean false)) done)))))))))
-
--- "ping"
-abbrev pub ping : Members
-ping = done
-
--- "buildInfo"
-abbrev pub build_info : Members
-build_info =
-    member (codes "version") (scalar (string (codes "4.4.0"))) (member (codes "versionArray") (array (item (whole 4) (item (whole 4) (item (whole 0) (item (whole 0) no_items)))))
-    (member (codes "bits") (whole 64) (member (codes "maxBsonObjectSize") (whole 16777216) done)))
 
 -- how many of those that are found are counted ("count")
 abbrev pub counted : ℕ → ℕ → ℕ → ℕ
@@ -51,24 +23,57 @@ found namespace ds =
     member (codes "cursor") (document (member (codes "firstBatch") (array ds) (member (codes "id") (scalar (int64 (pos 0)))
     (member (codes "ns") (scalar (string namespace)) no_members)))) done
 
+-- a group of that many, if there are some ("aggregate")
+abbrev pub group_of : Value → ℤ → Value
+group_of id n = document (member (codes "_id") id (member (codes "n") (scalar (int32 n)) no_members))
+
+abbrev pub group : Value → ℕ → Items
+group id n = if n == 0 then no_items else item (group_of id (pos n)) no_items
+
+-- different values ("distinct")
+abbrev pub values : Items → Members
+values vs = member (codes "values") (array vs) done
+
+-- a collection ("listCollections")
+abbrev pub collection : List ℕ → Value
+collection name =
+    document (member (codes "name") (scalar (string name)) (member (codes "type") (scalar (string (codes "collection"))) (member (codes "options") (document no_members) no_members)))
+
+abbrev pub found_number : Bool → ℤ
+found_number true = pos 1
+found_number false = pos 0
+
+-- what was done with the document that was found, if one was: it was removed, or is another one now
+abbrev pub last : Bool → Bool → Members
+last true is = member (codes "n") (scalar (int32 (found_number is))) no_members
+last false is = member (codes "n") (scalar (int32 (found_number is))) (member (codes "updatedExisting") (scalar (boolean is)) no_members)
+
+-- the document, or null if none was found ("findAndModify")
+abbrev pub modified : Bool → Bool → Value → Members
+modified removes is v = member (codes "lastErrorObject") (document (last removes is)) (member (codes "value") v done)
+
 -- a document of a list that wasn't written: its place in the list, and why
 abbrev pub write_error : ℤ → Code → List ℕ → Value
 write_error place c why =
     document (member (codes "index") (scalar (int32 place)) (member (codes "code") (scalar (int32 (code_number c))) (member (codes "errmsg") (scalar (string why)) no_members)))
 
--- the errors, if there are any
-abbrev pub with_errors : Items → Members → Members
-with_errors no_items ms = ms
-with_errors (item v vs) ms = member (codes "writeErrors") (array (item v vs)) ms
+-- a document that was put in as none answered: the place of its statement, and its `_id`
+abbrev pub upserted : ℤ → Value → Value
+upserted place id = document (member (codes "index") (scalar (int32 place)) (member (codes "_id") id no_members))
+
+-- a list, if it has something
+abbrev pub with_list : List ℕ → Items → Members → Members
+with_list key no_items ms = ms
+with_list key (item v vs) ms = member key (array (item v vs)) ms
 
 -- how many of them are other ones now, if that is told
 abbrev pub with_changed : Bool → ℤ → Members → Members
 with_changed false n ms = ms
 with_changed true n ms = member (codes "nModified") (scalar (int32 n)) ms
 
--- of how many documents the changes were ("insert", "update", "delete")
-abbrev pub written : Bool → ℤ → ℤ → Items → Members
-written told n changed errors = member (codes "n") (scalar (int32 n)) (with_changed told changed (with_errors errors done))
+-- of how many documents the changes were, which were put in as none answered, and which changes aren't made ("insert", "update", "delete")
+abbrev pub written : Bool → ℤ → ℤ → Items → Items → Members
+written told n changed ids errors = member (codes "n") (scalar (int32 n)) (with_changed told changed (with_list (codes "upserted") ids (with_list (codes "writeErrors") errors done)))
 
 -- a command that wasn't done: a text, the number of the error, and its name; the double 0.0
 abbrev pub refused : List ℕ → Code → Members
@@ -86,5 +91,5 @@ abbrev pub after_changed : Option ℤ → List (Key × Value) → List (Key × V
 after_changed None ps = ps
 after_changed (Some n) ps = put (codes "nModified") (scalar (int32 n)) ps
 
-abbrev pub after_errors : List Bson → List (Key × Value) → List (Key × Value)
-after_errors xs ps = if length xs == 0 then ps else put (codes "writeErrors") (array (items_of (map view xs))) ps
+abbrev pub after_list : List ℕ → List Bson → List (Key × Value) → List (Key × Value)
+after_list key xs ps = if length xs == 0 then ps else put key (array (items_of (map view xs))) ps

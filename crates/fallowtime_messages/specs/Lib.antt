@@ -1,9 +1,4 @@
-pub mod Codes
-pub mod Faults
-pub mod Fields
-pub mod Lines
 pub mod Answers
-pub mod Plans
 pub mod Done
 pub mod Runs
 pub mod Outcomes

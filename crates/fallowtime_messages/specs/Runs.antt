@@ -11,9 +11,9 @@ use Rattle.fallowtime_commands.specs.Reports.{update_name}
 use Rattle.fallowtime_commands.specs.declared.answer.Answer.{Answer}
 use Rattle.fallowtime_commands.specs.declared.answer.Answer.TheVariants as answer
 use Rattle.fallowtime_session.specs.Deeds.{Deed, Did}
-use Rattle.fallowtime_messages.specs.Answers.{write_error}
-use Rattle.fallowtime_messages.specs.Codes.{code_of, update_code}
-use Rattle.fallowtime_messages.specs.declared.asked.Statement.{Statement}
+use Rattle.fallowtime_messages.specs.Answers.{upserted, write_error}
+use Rattle.fallowtime_plans.specs.Codes.{code_of, update_code}
+use Rattle.fallowtime_plans.specs.declared.asked.Statement.{Statement}
 use Rattle.fallowtime_messages.specs.declared.writing.Written.{Written}
 
 -- ---- deeds
@@ -46,6 +46,11 @@ count_of r = 0
 abbrev pub changed_of : Result Answer StoreError → ℕ
 changed_of (Ok (answer.Updated m c)) = c
 changed_of r = 0
+
+-- the `_id` of the document that it put in, of the statement at a place
+abbrev pub ids_of : ℕ → Result Answer StoreError → List Value
+ids_of i (Ok (answer.Upserted v)) = upserted (pos i) (view v) ∷ []
+ids_of i r = []
 
 -- why it isn't made, of the statement at a place
 abbrev pub errors_of : ℕ → Result Answer StoreError → List Value
@@ -88,6 +93,10 @@ abbrev pub changes : List Deed → ℕ
 changes [] = 0
 changes (d ∷ ds) = changed_of d.outcome + changes ds
 
+abbrev pub ids_from : ℕ → List Deed → List Value
+ids_from i [] = []
+ids_from i (d ∷ ds) = ids_of i d.outcome ++ ids_from (i + 1) ds
+
 abbrev pub errors_from : ℕ → List Deed → List Value
 errors_from i [] = []
 errors_from i (d ∷ ds) = errors_of i d.outcome ++ errors_from (i + 1) ds
@@ -97,6 +106,7 @@ pub record Sums (ds : List Deed) (w : Written) : Type 0 where
   pub place : w.place ≡ length ds
   pub count : w.count ≡ counts ds
   pub changed : w.changed ≡ changes ds
+  pub ids : map view w.ids.items ≡ ids_from 0 ds
   pub errors : map view w.errors.items ≡ errors_from 0 ds
 
 -- the statements were run, and this is kept; or memory ran out for it
@@ -111,6 +121,7 @@ pub record Adds (r : Result Answer StoreError) (old new : Written) : Type 0 wher
   pub place : new.place ≡ old.place + 1
   pub count : new.count ≡ old.count + count_of r
   pub changed : new.changed ≡ old.changed + changed_of r
+  pub ids : map view new.ids.items ≡ map view old.ids.items ++ ids_of old.place r
   pub errors : map view new.errors.items ≡ map view old.errors.items ++ errors_of old.place r
 
 -- a statement was done, and its outcome is kept, and whether those behind it aren't done; or memory ran out for that

@@ -19,11 +19,11 @@ use Rattle.bson_message.specs.declared.section.Sequence.{Sequence}
 use Rattle.bson_raw.specs.View.{bytes_of}
 use Rattle.fallowtime_session.specs.Deeds.{Deed}
 use Rattle.fallowtime_messages.specs.Answers as told
-use Rattle.fallowtime_messages.specs.Fields.{named}
+use Rattle.fallowtime_plans.specs.Fields.{first_key, named}
 use Rattle.fallowtime_messages.specs.Outcomes.{Comes}
-use Rattle.fallowtime_messages.specs.Plans.{first_key}
-use Rattle.fallowtime_messages.specs.declared.fault.Code.TheVariants as code
-use Rattle.fallowtime_messages.specs.declared.name.Name.TheVariants as name
+use Rattle.fallowtime_plans.specs.Told.{hello}
+use Rattle.fallowtime_plans.specs.declared.fault.Code.TheVariants as code
+use Rattle.fallowtime_plans.specs.declared.name.Name.TheVariants as name
 
 -- the message, or its document, can't be read
 abbrev pub damaged : Members
@@ -40,7 +40,7 @@ abbrev pub IsGreeting : Members → Type 0
 IsGreeting ms = (key : List ℕ) × (first_key ms ≡ Some key) × (named key ≡ Some name.Hello)
 
 abbrev pub ComesOfQuery : OpQuery → Members → Type 0
-ComesOfQuery q answer = (answer ≡ damaged) ⊎ (answer ≡ told.no_room) ⊎ ((ms : Members) × Means (bytes_of q.query) ms × IsGreeting ms × (answer ≡ told.hello))
+ComesOfQuery q answer = (answer ≡ damaged) ⊎ (answer ≡ told.no_room) ⊎ ((ms : Members) × Means (bytes_of q.query) ms × IsGreeting ms × (answer ≡ hello))
 
 abbrev pub ComesOf : List ℕ → Result Body Fault → Members → List Deed → Type 0
 ComesOf db (Ok (Msg m)) answer ds = ComesOfMsg db m answer ds

@@ -1,110 +1,14 @@
 //! The documents that commands are answered with.
 
-ghost use Rattle.std.specs.Prelude.{◌≡◌, IfOk, OnOk, codes, is_some, map, pos, string_bytes, unwrap_or};
-ghost use Rattle.bson_base.specs.Value.{double, scalar};
+ghost use Rattle.std.specs.Prelude.{◌≡◌, IfOk, OnOk, is_some, map, pos, string_bytes, unwrap_or};
 ghost use Rattle.bson_model.specs.View.{content, items_of, pairs_of, view};
-ghost use Rattle.bson_pairs.specs.Keyed.{put as put_pair};
 ghost use Rattle.fallowtime_messages.specs.Answers as answer;
-ghost use Rattle.fallowtime_messages.specs.Answers.{after_changed, after_errors};
-ghost use Rattle.fallowtime_messages.specs.Lines.{options};
+ghost use Rattle.fallowtime_messages.specs.Answers.{after_changed, after_list};
 
-use crate::fault::Code;
 use bson_base::DoubleBits;
 use bson_model::{Array, Bson, Document};
+use fallowtime_plans::{Code, done, put};
 use std::alloc::{AllocError, Global};
-
-/// The double 1.0.
-const ONE: DoubleBits = DoubleBits(0x3FF0_0000_0000_0000);
-
-/// Puts a value under a key.
-fn put(document: &mut Document, alloc: Global, key: &str, value: Bson) -> Result<(), AllocError>
-    ensures { OnOk result (pairs_of document.new ≡ put_pair key.now (view value) (pairs_of document.old)) }
-{
-    document.put(String::from_str(alloc, key)?, value)
-}
-
-/// Ends the answer to a command that was done.
-fn done(mut document: Document, alloc: Global) -> Result<Document, AllocError>
-    ensures { IfOk result (λ d. pairs_of d ≡ put_pair (codes "ok") (scalar (double 4607182418800017408)) (pairs_of document)) }
-{
-    put(&mut document, alloc, "ok", Bson::Double(ONE))?;
-    Ok(document)
-}
-
-/// The answer to `ping`.
-pub(crate) fn ping(alloc: Global) -> Result<Document, AllocError>
-    ensures { IfOk result (λ d. content d ≡ answer.ping) }
-{
-    done(Document::new(alloc), alloc)
-}
-
-/// The answer to `hello`: a server that stands alone.
-pub(crate) fn hello(alloc: Global) -> Result<Document, AllocError>
-    ensures { IfOk result (λ d. content d ≡ answer.hello) }
-{
-    let mut told = Document::new(alloc);
-    put(&mut told, alloc, "helloOk", Bson::Boolean(true))?;
-    put(&mut told, alloc, "ismaster", Bson::Boolean(true))?;
-    put(&mut told, alloc, "isWritablePrimary", Bson::Boolean(true))?;
-    put(&mut told, alloc, "maxBsonObjectSize", Bson::Int32(16777216))?;
-    put(
-        &mut told,
-        alloc,
-        "maxMessageSizeBytes",
-        Bson::Int32(48000000),
-    )?;
-    put(&mut told, alloc, "maxWriteBatchSize", Bson::Int32(100000))?;
-    put(
-        &mut told,
-        alloc,
-        "logicalSessionTimeoutMinutes",
-        Bson::Int32(30),
-    )?;
-    put(&mut told, alloc, "minWireVersion", Bson::Int32(0))?;
-    put(&mut told, alloc, "maxWireVersion", Bson::Int32(9))?;
-    put(&mut told, alloc, "readOnly", Bson::Boolean(false))?;
-    done(told, alloc)
-}
-
-/// The answer to `buildInfo`.
-pub(crate) fn build_info(alloc: Global) -> Result<Document, AllocError>
-    ensures { IfOk result (λ d. content d ≡ answer.build_info) }
-{
-    let mut parts = Vec::new(alloc);
-    parts.push(Bson::Int32(4))?;
-    parts.push(Bson::Int32(4))?;
-    parts.push(Bson::Int32(0))?;
-    parts.push(Bson::Int32(0))?;
-    let mut told = Document::new(alloc);
-    put(
-        &mut told,
-        alloc,
-        "version",
-        Bson::String(String::from_str(alloc, "4.4.0")?),
-    )?;
-    put(&mut told, alloc, "versionArray", Bson::Array(parts))?;
-    put(&mut told, alloc, "bits", Bson::Int32(64))?;
-    put(&mut told, alloc, "maxBsonObjectSize", Bson::Int32(16777216))?;
-    done(told, alloc)
-}
-
-/// The options of the line of `find`.
-pub(crate) fn find_options(
-    alloc: Global,
-    sort: Document,
-    skip: i64,
-    most: i64,
-    fields: Document,
-) -> Result<Document, AllocError>
-    ensures { IfOk result (λ d. content d ≡ options (content sort) skip most (content fields)) }
-{
-    let mut told = Document::new(alloc);
-    put(&mut told, alloc, "sort", Bson::Document(sort))?;
-    put(&mut told, alloc, "skip", Bson::Int64(skip))?;
-    put(&mut told, alloc, "limit", Bson::Int64(most))?;
-    put(&mut told, alloc, "fields", Bson::Document(fields))?;
-    Ok(told)
-}
 
 /// The answer to `count`.
 pub(crate) fn counts(alloc: Global, number: i64) -> Result<Document, AllocError>
@@ -129,6 +33,83 @@ pub(crate) fn found(
     put(&mut cursor, alloc, "ns", Bson::String(namespace))?;
     let mut told = Document::new(alloc);
     put(&mut told, alloc, "cursor", Bson::Document(cursor))?;
+    done(told, alloc)
+}
+
+/// A group of that many.
+pub(crate) fn group(alloc: Global, id: &Bson, number: i32) -> Result<Bson, AllocError>
+    ensures { IfOk result (λ v. view v ≡ answer.group_of (view id.now) number) }
+{
+    let mut told = Document::new(alloc);
+    put(&mut told, alloc, "_id", id.try_clone(alloc)?)?;
+    put(&mut told, alloc, "n", Bson::Int32(number))?;
+    Ok(Bson::Document(told))
+}
+
+/// The answer to `distinct`.
+pub(crate) fn values(alloc: Global, items: Array) -> Result<Document, AllocError>
+    ensures { IfOk result (λ d. content d ≡ answer.values (items_of (map view items.items))) }
+{
+    let mut told = Document::new(alloc);
+    put(&mut told, alloc, "values", Bson::Array(items))?;
+    done(told, alloc)
+}
+
+/// A collection, as `listCollections` tells it.
+pub(crate) fn collection(alloc: Global, name: &str) -> Result<Bson, AllocError>
+    ensures { IfOk result (λ v. view v ≡ answer.collection name.now) }
+{
+    let mut told = Document::new(alloc);
+    put(
+        &mut told,
+        alloc,
+        "name",
+        Bson::String(String::from_str(alloc, name)?),
+    )?;
+    put(
+        &mut told,
+        alloc,
+        "type",
+        Bson::String(String::from_str(alloc, "collection")?),
+    )?;
+    put(
+        &mut told,
+        alloc,
+        "options",
+        Bson::Document(Document::new(alloc)),
+    )?;
+    Ok(Bson::Document(told))
+}
+
+/// What was done with the document that was found, if one was.
+fn last(alloc: Global, removes: bool, is: bool) -> Result<Document, AllocError>
+    ensures { IfOk result (λ d. content d ≡ answer.last removes is) }
+{
+    let mut told = Document::new(alloc);
+    put(&mut told, alloc, "n", Bson::Int32(if is { 1 } else { 0 }))?;
+    if !removes {
+        put(&mut told, alloc, "updatedExisting", Bson::Boolean(is))?;
+    }
+    Ok(told)
+}
+
+/// The answer to `findAndModify`: the document that was found and changed, or null.
+pub(crate) fn modified(
+    alloc: Global,
+    removes: bool,
+    is: bool,
+    value: Bson,
+) -> Result<Document, AllocError>
+    ensures { IfOk result (λ d. content d ≡ answer.modified removes is (view value)) }
+{
+    let mut told = Document::new(alloc);
+    put(
+        &mut told,
+        alloc,
+        "lastErrorObject",
+        Bson::Document(last(alloc, removes, is)?),
+    )?;
+    put(&mut told, alloc, "value", value)?;
     done(told, alloc)
 }
 
@@ -166,30 +147,45 @@ fn put_changed(told: &mut Document, alloc: Global, changed: Option<i32>) -> Resu
     }
 }
 
-/// Tells the errors, if there are any.
-fn put_errors(told: &mut Document, alloc: Global, errors: Array) -> Result<(), AllocError>
-    ensures { OnOk result (pairs_of told.new ≡ after_errors errors.items (pairs_of told.old)) }
+/// Tells a list under a key, if it has something.
+fn put_list(told: &mut Document, alloc: Global, key: &str, items: Array) -> Result<(), AllocError>
+    ensures { OnOk result (pairs_of told.new ≡ after_list key.now items.items (pairs_of told.old)) }
 {
-    if errors.as_slice().is_empty() {
+    if items.as_slice().is_empty() {
         return Ok(());
     }
-    put(told, alloc, "writeErrors", Bson::Array(errors))
+    put(told, alloc, key, Bson::Array(items))
 }
 
-/// The answer to changes: of how many documents they were, how many of these are other ones now if that is told, and
-/// an error for each change that isn't made.
+/// A document that was put in as none answered: the place of its statement, and its `_id`.
+pub(crate) fn upserted(alloc: Global, place: u64, id: &Bson) -> Result<Bson, AllocError>
+    ensures { IfOk result (λ v. view v ≡ answer.upserted (pos place) (view id.now)) }
+{
+    let Ok(place) = i32::try_from(place) else {
+        return Err(AllocError);
+    };
+    let mut told = Document::new(alloc);
+    put(&mut told, alloc, "index", Bson::Int32(place))?;
+    put(&mut told, alloc, "_id", id.try_clone(alloc)?)?;
+    Ok(Bson::Document(told))
+}
+
+/// The answer to changes: of how many documents they were, how many of these are other ones now if that is told, which
+/// were put in as none answered, and an error for each change that isn't made.
 pub(crate) fn written(
     alloc: Global,
     number: i32,
     changed: Option<i32>,
+    ids: Array,
     errors: Array,
 ) -> Result<Document, AllocError>
-    ensures { IfOk result (λ d. content d ≡ answer.written (is_some changed) number (unwrap_or changed (pos 0)) (items_of (map view errors.items))) }
+    ensures { IfOk result (λ d. content d ≡ answer.written (is_some changed) number (unwrap_or changed (pos 0)) (items_of (map view ids.items)) (items_of (map view errors.items))) }
 {
     let mut told = Document::new(alloc);
     put(&mut told, alloc, "n", Bson::Int32(number))?;
     put_changed(&mut told, alloc, changed)?;
-    put_errors(&mut told, alloc, errors)?;
+    put_list(&mut told, alloc, "upserted", ids)?;
+    put_list(&mut told, alloc, "writeErrors", errors)?;
     done(told, alloc)
 }
 

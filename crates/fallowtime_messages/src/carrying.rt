@@ -6,15 +6,14 @@ ghost use Rattle.bson_store.specs.Calls.{store_state};
 ghost use Rattle.bson_store.specs.Export.{bytes_of_each};
 ghost use Rattle.fallowtime_messages.specs.Done.{DoesAll};
 ghost use Rattle.fallowtime_messages.specs.Outcomes.{CarriesOrStarts, InsertsOrStarts, IsImport, PutsAll, joined, number_of};
-ghost use Rattle.fallowtime_messages.specs.declared.asked.Plan.TheVariants as plans;
+ghost use Rattle.fallowtime_plans.specs.declared.asked.Plan.TheVariants as plans;
 
-use crate::asked::{Plan, Statement, Way};
-use crate::lists::copy_of;
 use crate::telling::{tell, tell_inserted, tell_written};
 use crate::writing::{discard, perform_statement, write_all};
 use bson_model::Document;
 use bson_store::{Store, StoreError};
 use fallowtime_commands::Answer;
+use fallowtime_plans::{Plan, Statement, Way, copy_of};
 use fallowtime_requests::Request;
 use sqlite::Alter;
 use std::alloc::{AllocError, Global};
@@ -130,6 +129,20 @@ fn carry_inserts<S: Alter + Drop>(
     }
 }
 
+/// Does changes, one after the other, and tells them.
+fn carry_writes<S: Alter + Drop>(
+    alloc: Global,
+    store: &mut Store<S>,
+    statements: Vec<Statement>,
+    stops: bool,
+    told_changed: bool,
+) -> Result<Document, AllocError>
+    ensures { DoesAll (CarriesOrStarts (plans.Writes statements stops told_changed) result) (store_state S.Store store.old) (store_state S.Store store.new) }
+{
+    let written = write_all(alloc, store, statements, stops)?;
+    tell_written(alloc, written, told_changed)
+}
+
 /// Does what a command asks, and tells it.
 ///
 /// After an error there is no room to tell it, and some of it may have been done.
@@ -143,6 +156,9 @@ pub(crate) fn carry<S: Alter + Drop>(
     match plan {
         Plan::Told(document) => Ok(document),
         Plan::One(statement, way) => carry_one(alloc, store, statement, &way),
+        Plan::Writes(statements, stops, told_changed) => {
+            carry_writes(alloc, store, statements, stops, told_changed)
+        }
         Plan::Inserts(name, documents, stops) => {
             carry_inserts(alloc, store, &name, documents.as_slice(), stops)
         }

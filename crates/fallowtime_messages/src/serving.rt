@@ -14,17 +14,16 @@ ghost use Rattle.fallowtime_messages.specs.Done.{DoesAll};
 ghost use Rattle.fallowtime_messages.specs.Outcomes.{Comes, TellsFault, told_by};
 ghost use Rattle.fallowtime_messages.specs.Serving.{ComesOfMsg, ComesOfQuery, IsMsgOf, Serves, ServesMsg, damaged};
 
-use crate::answers::{hello, no_room, refused};
+use crate::answers::{no_room, refused};
 use crate::carrying::carry;
-use crate::fault::{Code, Fault};
-use crate::name::{Name, name_of};
-use crate::plans::{first_key, plan};
 use bson_bytes::encode_document;
 use bson_frame::ErrorKind;
 use bson_message::{Body, OpMsg, OpQuery, Sequence, message_of, old_reply, reply};
 use bson_model::Document;
 use bson_raw::RawDocument;
 use bson_store::Store;
+use fallowtime_plans::{Code, Fault, Name, first_key, hello, name_of, plan};
+use fallowtime_texts::IdMaker;
 use sqlite::Alter;
 use std::alloc::{AllocError, Global};
 
@@ -52,13 +51,14 @@ fn tell_fault(alloc: Global, fault: Fault) -> Result<Document, AllocError>
 fn answer_command<S: Alter + Drop>(
     alloc: Global,
     store: &mut Store<S>,
+    maker: &mut IdMaker,
     database: &str,
     command: &Document,
     lists: &[Sequence<'_>],
 ) -> Result<Document, AllocError>
     ensures { DoesAll (Comes database.now (content command.now) lists.now (told_by result)) (store_state S.Store store.old) (store_state S.Store store.new) }
 {
-    match plan(alloc, database, command, lists) {
+    match plan(alloc, maker, database, command, lists) {
         Ok(plan) => carry(alloc, store, plan),
         Err(fault) => tell_fault(alloc, fault),
     }
@@ -83,6 +83,7 @@ fn command_of(alloc: Global, body: RawDocument<'_>) -> Result<Option<Document>, 
 fn answer_msg<S: Alter + Drop>(
     alloc: Global,
     store: &mut Store<S>,
+    maker: &mut IdMaker,
     database: &str,
     message: OpMsg<'_>,
 ) -> Result<Document, AllocError>
@@ -90,7 +91,9 @@ fn answer_msg<S: Alter + Drop>(
 {
     let lists = message.sequences(alloc)?;
     match command_of(alloc, message.body)? {
-        Some(command) => answer_command(alloc, store, database, &command, lists.as_slice()),
+        Some(command) => {
+            answer_command(alloc, store, maker, database, &command, lists.as_slice())
+        }
         None => damaged(alloc),
     }
 }
@@ -167,6 +170,7 @@ fn finished(
 fn serve_msg<S: Alter + Drop>(
     alloc: Global,
     store: &mut Store<S>,
+    maker: &mut IdMaker,
     database: &str,
     number: u32,
     request: u32,
@@ -175,7 +179,7 @@ fn serve_msg<S: Alter + Drop>(
     ensures { DoesAll (ServesMsg database.now number request message.entry result) (store_state S.Store store.old) (store_state S.Store store.new) }
 {
     let spare = spare(alloc, number, request)?;
-    let answer = answer_msg(alloc, store, database, message);
+    let answer = answer_msg(alloc, store, maker, database, message);
     if !message.is_answered() {
         return Ok(None);
     }
@@ -212,12 +216,14 @@ fn serve_damaged(alloc: Global, number: u32, request: u32) -> Result<Vec<u8>, Al
 /// Does what a message asks of the store, which is the database of this name, and returns the bytes of its answer, which
 /// has this number: an OP_MSG, or an OP_REPLY to an OP_QUERY. None for a message that wants no answer ("moreToCome"), and
 /// for bytes that aren't the one message that they declare. What is asked and can't be read is refused in the answer, and
-/// nothing is done then; so is a message that is damaged.
+/// nothing is done then; so is a message that is damaged. The
+/// maker makes the `_id` of a document that is put in without one as none answered.
 ///
 /// Fails if there is no memory even for the answer that says so; then nothing was done.
 pub fn serve<S: Alter + Drop>(
     alloc: Global,
     store: &mut Store<S>,
+    maker: &mut IdMaker,
     database: &str,
     number: u32,
     bytes: &[u8],
@@ -229,7 +235,15 @@ pub fn serve<S: Alter + Drop>(
     };
     match said {
         Ok(Body::Msg(message)) => {
-            serve_msg(alloc, store, database, number, header.request, message)
+            serve_msg(
+                alloc,
+                store,
+                maker,
+                database,
+                number,
+                header.request,
+                message,
+            )
         }
         Ok(Body::Query(query)) => { Ok(Some(serve_query(alloc, number, header.request, query)?)) }
         Err(_) => Ok(Some(serve_damaged(alloc, number, header.request)?)),

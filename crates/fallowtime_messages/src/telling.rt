@@ -1,25 +1,29 @@
 //! The documents that tell what the store returned.
 
-ghost use Rattle.std.specs.Prelude.{◌≡◌, IfOk, Ok, false, pos, string_bytes};
+ghost use Rattle.std.specs.Prelude.{◌≡◌, IfOk, Ok, Some, String as AnyString, false, map, pos, string_bytes};
 ghost use Rattle.std.specs.List.{AllZip};
 ghost use Rattle.bson_base.specs.Value.{no_items};
 ghost use Rattle.bson_bytes.specs.Spells.{Means};
-ghost use Rattle.bson_model.specs.View.{content, view};
+ghost use Rattle.bson_model.specs.View.{content, items_of, view};
 ghost use Rattle.bson_model.specs.declared.bson.Bson.{Bson as AnyValue};
 ghost use Rattle.fallowtime_commands.specs.declared.answer.Answer.TheVariants as answer;
 ghost use Rattle.fallowtime_messages.specs.Answers.{counted};
 ghost use Rattle.fallowtime_messages.specs.Answers as told;
 ghost use Rattle.fallowtime_messages.specs.Outcomes.{IsMeant, Tells, TellsWritten};
+ghost use Rattle.fallowtime_plans.specs.declared.asked.Way.TheVariants as ways;
+ghost use Rattle.std.specs.declared.alloc.Global.{Global as Allocator};
+ghost use Rattle.store_distinct.specs.Counted.{value_in};
 
-use crate::answers::{counts, found, refused, written};
-use crate::asked::Way;
-use crate::fault::code_of;
+use crate::answers::{collection, counts, found, group, modified, refused, values, written};
 use crate::writing::Written;
 use bson_model::{Array, Bson, Document};
 use bson_raw::RawDocument;
 use bson_store::StoreError;
-use fallowtime_commands::Answer;
+use fallowtime_commands::{Answer, update_name};
+use fallowtime_plans::{Way, code_of, update_code};
 use std::alloc::{AllocError, Global};
+use store_distinct::Counted;
+use store_update::UpdateError;
 
 /// How many of those that are found are counted.
 fn counted(skip: u64, most: u64, number: u64) -> u64
@@ -88,13 +92,38 @@ fn copied(alloc: Global, space: &String) -> Result<String, AllocError>
     String::from_str(alloc, space.as_str())
 }
 
+/// A group of that many as the only item, or none.
+fn groups(alloc: Global, id: &Bson, number: u64) -> Result<Array, AllocError>
+    ensures { IfOk result (λ items. items_of (map view items.items) ≡ told.group (view id.now) number) }
+{
+    let mut items = Vec::new(alloc);
+    if number == 0 {
+        return Ok(items);
+    }
+    let item = group(alloc, id, short(number)?)?;
+    items.push(item)?;
+    Ok(items)
+}
+
+/// The document that tells a number as that of a group.
+fn tell_group(alloc: Global, space: &String, id: &Bson, number: u64) -> Result<Document, AllocError>
+    ensures { IfOk result (λ d. content d ≡ told.found (string_bytes space.now) (told.group (view id.now) number)) }
+{
+    let name = copied(alloc, space)?;
+    let items = groups(alloc, id, number)?;
+    found(alloc, name, items)
+}
+
 /// The document that tells a number.
 fn tell_number(alloc: Global, way: &Way, number: u64) -> Result<Document, AllocError>
     ensures { IfOk result (λ d. Tells way.now (Ok (answer.Number number)) (content d)) }
 {
     match way {
         Way::Counted(skip, most) => counts(alloc, signed(counted(*skip, *most, number))?),
-        Way::Found(_) => Err(AllocError),
+        Way::Grouped(space, id, skip, most) => {
+            tell_group(alloc, space, id, counted(*skip, *most, number))
+        }
+        _ => Err(AllocError),
     }
 }
 
@@ -112,6 +141,108 @@ fn tell_documents(alloc: Global, way: &Way, bodies: &Vec<Vec<u8>>) -> Result<Doc
     }
 }
 
+/// The document that tells a document that was found and changed; whether it was removed.
+fn tell_changed(alloc: Global, removes: bool, body: &Vec<u8>) -> Result<Document, AllocError>
+    ensures { IfOk result (λ d. Tells (ways.Modified removes) (Ok (answer.Found (Some body.now))) (content d)) }
+{
+    let value = item_of(alloc, body.as_slice())?;
+    modified(alloc, removes, true, value)
+}
+
+/// The document that tells which document was found and changed, if one was; whether it was removed.
+fn tell_found(alloc: Global, removes: bool, body: &Option<Vec<u8>>) -> Result<Document, AllocError>
+    ensures { IfOk result (λ d. Tells (ways.Modified removes) (Ok (answer.Found body.now)) (content d)) }
+{
+    match body {
+        Some(body) => tell_changed(alloc, removes, body),
+        None => modified(alloc, removes, false, Bson::Null),
+    }
+}
+
+/// The same in a way.
+fn tell_modified(alloc: Global, way: &Way, body: &Option<Vec<u8>>) -> Result<Document, AllocError>
+    ensures { IfOk result (λ d. Tells way.now (Ok (answer.Found body.now)) (content d)) }
+{
+    match way {
+        Way::Modified(removes) => tell_found(alloc, *removes, body),
+        _ => Err(AllocError),
+    }
+}
+
+/// The document that tells why the document that was found isn't changed.
+fn tell_not_updated(
+    alloc: Global,
+    way: &Way,
+    place: u64,
+    error: UpdateError,
+) -> Result<Document, AllocError>
+    ensures { IfOk result (λ d. Tells way.now (Ok (answer.NotUpdated place error)) (content d)) }
+{
+    match way {
+        Way::Modified(_) => {
+            let why = String::from_str(alloc, update_name(error))?;
+            refused(alloc, why, update_code(error))
+        }
+        _ => Err(AllocError),
+    }
+}
+
+/// A copy of each value that is counted.
+fn copies(alloc: Global, values: &[Counted]) -> Result<Array, AllocError>
+    ensures { IfOk result (λ items. map view items.items ≡ map value_in values.now) }
+{
+    let mut items = Vec::new(alloc);
+    for counted in values {
+        let item = counted.value.try_clone(alloc)?;
+        items.push(item)?;
+    }
+    Ok(items)
+}
+
+/// The document that tells different values.
+fn tell_values(
+    alloc: Global,
+    way: &Way,
+    counts: bool,
+    counted: &Vec<Counted>,
+) -> Result<Document, AllocError>
+    ensures { IfOk result (λ d. Tells way.now (Ok (answer.Values counted.now counts)) (content d)) }
+{
+    match way {
+        Way::Different => {
+            let items = copies(alloc, counted.as_slice())?;
+            values(alloc, items)
+        }
+        _ => Err(AllocError),
+    }
+}
+
+/// The collections of these names.
+fn collections(alloc: Global, names: &[String]) -> Result<Array, AllocError>
+    ensures { IfOk result (λ items. map view items.items ≡ map (λ (n : AnyString Allocator). told.collection (string_bytes n)) names.now) }
+{
+    let mut items = Vec::new(alloc);
+    for name in names {
+        let item = collection(alloc, name.as_str())?;
+        items.push(item)?;
+    }
+    Ok(items)
+}
+
+/// The document that tells the names of collections.
+fn tell_names(alloc: Global, way: &Way, names: &Vec<String>) -> Result<Document, AllocError>
+    ensures { IfOk result (λ d. Tells way.now (Ok (answer.Names names.now)) (content d)) }
+{
+    match way {
+        Way::Named(space) => {
+            let name = copied(alloc, space)?;
+            let items = collections(alloc, names.as_slice())?;
+            found(alloc, name, items)
+        }
+        _ => Err(AllocError),
+    }
+}
+
 /// The document that tells what the store returned.
 pub(crate) fn tell(
     alloc: Global,
@@ -123,6 +254,10 @@ pub(crate) fn tell(
     match outcome {
         Ok(Answer::Number(number)) => tell_number(alloc, way, *number),
         Ok(Answer::Documents(bodies)) => tell_documents(alloc, way, bodies),
+        Ok(Answer::Found(body)) => tell_modified(alloc, way, body),
+        Ok(Answer::NotUpdated(place, error)) => tell_not_updated(alloc, way, *place, *error),
+        Ok(Answer::Values(counted, counts)) => tell_values(alloc, way, *counts, counted),
+        Ok(Answer::Names(names)) => tell_names(alloc, way, names),
         Ok(_) => Err(AllocError),
         Err(error) => {
             let why = String::from_str(alloc, error.kind.name())?;
@@ -142,15 +277,21 @@ pub(crate) fn tell_written(
     let number = short(kept.count)?;
     let changed = short(kept.changed)?;
     if told_changed {
-        written(alloc, number, Some(changed), kept.errors)
+        written(alloc, number, Some(changed), kept.ids, kept.errors)
     } else {
-        written(alloc, number, None, kept.errors)
+        written(alloc, number, None, kept.ids, kept.errors)
     }
 }
 
 /// The document that tells of documents that were put in all at once.
 pub(crate) fn tell_inserted(alloc: Global, number: u64) -> Result<Document, AllocError>
-    ensures { IfOk result (λ d. content d ≡ told.written false (pos number) (pos 0) no_items) }
+    ensures { IfOk result (λ d. content d ≡ told.written false (pos number) (pos 0) no_items no_items) }
 {
-    written(alloc, short(number)?, None, Vec::new(alloc))
+    written(
+        alloc,
+        short(number)?,
+        None,
+        Vec::new(alloc),
+        Vec::new(alloc),
+    )
 }

@@ -6,14 +6,13 @@ ghost use Rattle.bson_store.specs.Calls.{store_state};
 ghost use Rattle.fallowtime_commands.specs.Performing.{IsAnswerTo};
 ghost use Rattle.fallowtime_session.specs.Deeds.{Did};
 ghost use Rattle.fallowtime_messages.specs.Done.{DoesAll};
-ghost use Rattle.fallowtime_messages.specs.Runs.{Adds, RunsTo, Sums, WritesOne, changed_of, count_of, deed_of, errors_of, is_refused};
+ghost use Rattle.fallowtime_messages.specs.Runs.{Adds, RunsTo, Sums, WritesOne, changed_of, count_of, deed_of, errors_of, ids_of, is_refused};
 
-use crate::answers::write_error;
-use crate::asked::Statement;
-use crate::fault::{code_of, update_code};
+use crate::answers::{upserted, write_error};
 use bson_model::Bson;
 use bson_store::{Store, StoreError};
 use fallowtime_commands::{Answer, perform, update_name};
+use fallowtime_plans::{Statement, code_of, update_code};
 use sqlite::Alter;
 use std::alloc::{AllocError, Global};
 
@@ -26,6 +25,8 @@ pub(crate) struct Written {
     pub(crate) count: u64,
     /// How many of these are other ones now.
     pub(crate) changed: u64,
+    /// The `_id`s of the documents that were put in, and which statements did it.
+    pub(crate) ids: Vec<Bson>,
     /// Why statements are refused.
     pub(crate) errors: Vec<Bson>,
 }
@@ -80,6 +81,25 @@ fn changed_of(outcome: &Result<Answer, StoreError>) -> u64
     }
 }
 
+/// Adds to the `_id`s that of the document that the statement at a place put in, if it did.
+fn push_id(
+    alloc: Global,
+    place: u64,
+    outcome: &Result<Answer, StoreError>,
+    ids: &mut Vec<Bson>,
+) -> Result<(), AllocError>
+    ensures { OnOk result (map view ids.new.items ≡ map view ids.old.items ++ ids_of place outcome.now) }
+{
+    match outcome {
+        Ok(Answer::Upserted(id)) => {
+            let told = upserted(alloc, place, id)?;
+            ids.push(told)?;
+        }
+        _ => {}
+    }
+    Ok(())
+}
+
 /// Adds to the errors why the statement at a place is refused, if it is.
 fn push_error(
     alloc: Global,
@@ -111,6 +131,7 @@ fn keep(
 ) -> Result<(), AllocError>
     ensures { OnOk result (Adds outcome.now written.old written.new) }
 {
+    push_id(alloc, written.place, outcome, &mut written.ids)?;
     push_error(alloc, written.place, outcome, &mut written.errors)?;
     written.place = written.place.checked_add(1).ok_or(AllocError)?;
     written.count = written
@@ -161,6 +182,7 @@ fn begun(alloc: Global) -> Written
         place: 0,
         count: 0,
         changed: 0,
+        ids: Vec::new(alloc),
         errors: Vec::new(alloc),
     }
 }

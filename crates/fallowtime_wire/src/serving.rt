@@ -10,6 +10,7 @@ use bson_base::{Sink, Source};
 use bson_message::{ReadFault, next_message};
 use bson_store::{ErrorKind, Store};
 use fallowtime_session::send;
+use fallowtime_texts::IdMaker;
 use sqlite::Alter;
 use std::alloc::Global;
 
@@ -38,6 +39,7 @@ fn number_behind(turns: u64) -> u32
 fn exchange<S: Alter + Drop, O: Sink>(
     alloc: Global,
     store: &mut Store<S>,
+    maker: &mut IdMaker,
     database: &str,
     number: u32,
     message: &[u8],
@@ -47,7 +49,7 @@ fn exchange<S: Alter + Drop, O: Sink>(
     ensures { DoesAll (Exchanges database.now number message.now result (O.tally output.old)
         (O.tally output.new)) (store_state S.Store store.old) (store_state S.Store store.new) }
 {
-    match fallowtime_messages::serve(alloc, store, database, number, message) {
+    match fallowtime_messages::serve(alloc, store, maker, database, number, message) {
         Ok(Some(answer)) => send(output, answer.as_slice()),
         Ok(None) => Ok(()),
         Err(_) => Err(ErrorKind::Memory),
@@ -55,7 +57,8 @@ fn exchange<S: Alter + Drop, O: Sink>(
 }
 
 /// Does what the messages of `input` ask of `store`, which is the database of this name, one after the other, and writes
-/// the answer to each on `output` before it reads the next, until the input ends.
+/// the answer to each on `output` before it reads the next, until the input ends. `maker` makes the `_id`s of documents
+/// that are put in without one.
 ///
 /// `Reader` if a read failed; `EndInside` if the input ends inside a message; `BadLength` if a message declares a length
 /// under 16 or over 48000000 bytes; `Writer` if a write failed; `Memory` if there is none for the bytes of a message, or
@@ -63,6 +66,7 @@ fn exchange<S: Alter + Drop, O: Sink>(
 pub fn serve<S: Alter + Drop, I: Source, O: Sink>(
     alloc: Global,
     store: &mut Store<S>,
+    maker: &mut IdMaker,
     database: &str,
     input: &mut I,
     output: &mut O,
@@ -78,6 +82,7 @@ pub fn serve<S: Alter + Drop, I: Source, O: Sink>(
             Ok(true) => exchange(
                 alloc,
                 store,
+                maker,
                 database,
                 number_behind(turn),
                 message.as_slice(),

@@ -8,5 +8,8 @@ returns-in-Told g c = rw c.in-Told.is (carried_told c.in-Told.document (store_st
 pub returns-in-One : goal.returns-in-One
 returns-in-One g c = rw c.in-One.is c.carry_one.ensures
 
+pub returns-in-Writes : goal.returns-in-Writes
+returns-in-Writes g c = rw c.in-Writes.is c.carry_writes.ensures
+
 pub returns-in-Inserts : goal.returns-in-Inserts
 returns-in-Inserts g c = rw c.in-Inserts.is (rw c.as_slice.ensures.value at c.carry_inserts.ensures)

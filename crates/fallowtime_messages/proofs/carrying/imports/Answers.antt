@@ -1,8 +1,8 @@
 use Rattle.std.proofs.Common.{ℕ, Vec, string_bytes}
 use Rattle.std.specs.declared.alloc.Global.{Global}
 use Rattle.fallowtime_messages.specs.Outcomes.{IsImport}
-use Rattle.fallowtime_messages.specs.declared.asked.Statement.{Statement}
-use Rattle.fallowtime_messages.proofs.ListLemmas.{zip_more, zip_whole}
+use Rattle.fallowtime_plans.specs.declared.asked.Statement.{Statement}
+use Rattle.fallowtime_plans.proofs.ListLemmas.{zip_more, zip_whole}
 use Rattle.fallowtime_messages.proofs.carrying.imports.Goals as goal
 
 pub loop-document-preserved : goal.loop-document-preserved

@@ -2,7 +2,7 @@ use Rattle.std.proofs.Common.{ℕ, Vec, string_bytes, take}
 use Rattle.std.specs.List.{AllZip}
 use Rattle.std.specs.declared.alloc.Global.{Global}
 use Rattle.fallowtime_messages.specs.Outcomes.{IsImport}
-use Rattle.fallowtime_messages.specs.declared.asked.Statement.{Statement}
+use Rattle.fallowtime_plans.specs.declared.asked.Statement.{Statement}
 use Rattle.fallowtime_messages.proofs.carrying.imports.Given as goal
 
 abbrev pub invariant-loop-document : goal.invariant-loop-document

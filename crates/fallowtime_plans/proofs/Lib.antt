@@ -1,0 +1,9 @@
+pub mod ValueLemmas
+pub mod ListLemmas
+pub mod LineLemmas
+pub mod ChangeLemmas
+pub mod CountLemmas
+pub mod ModifyLemmas
+pub mod PlanLemmas
+pub mod GivenLemmas
+pub mod WriteLemmas

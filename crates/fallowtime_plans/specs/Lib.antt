@@ -1,0 +1,9 @@
+pub mod Codes
+pub mod Faults
+pub mod Fields
+pub mod Lines
+pub mod Changes
+pub mod Counting
+pub mod Modifying
+pub mod Told
+pub mod Plans

@@ -1,0 +1,45 @@
+//! What a command asks of the store.
+
+use bson_model::{Bson, Document};
+use fallowtime_requests::Request;
+
+/// What is asked of one collection.
+#[derive(Drop)]
+pub struct Statement {
+    /// The collection.
+    pub name: String,
+    /// What is requested of it.
+    pub request: Request<'static>,
+}
+
+/// How what the store returns is told.
+#[derive(Drop)]
+pub enum Way {
+    /// A number: how many are passed over, and how many are counted at most.
+    Counted(u64, u64),
+    /// The documents of a batch, of this collection behind its database.
+    Found(String),
+    /// A number as the only document of a batch, of this collection behind its database, with an `_id`; how many are
+    /// passed over, and how many are counted at most.
+    Grouped(String, Bson, u64, u64),
+    /// The document that was found and changed; whether it was removed.
+    Modified(bool),
+    /// Different values.
+    Different,
+    /// The names of collections, as those of a batch with this name.
+    Named(String),
+}
+
+/// What a command asks.
+#[derive(Drop)]
+pub enum Plan {
+    /// Nothing of the store; this is the answer.
+    Told(Document),
+    /// One thing, which is told in a way.
+    One(Statement, Way),
+    /// To put documents into a collection; if they are ordered, none behind the first that is refused.
+    Inserts(String, Vec<Vec<u8>>, bool),
+    /// Changes, one after the other; if they are ordered, none behind the first that is refused. It is told, if so, how
+    /// many documents are other ones then.
+    Writes(Vec<Statement>, bool, bool),
+}

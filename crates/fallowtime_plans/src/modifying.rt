@@ -1,0 +1,224 @@
+//! The lines of `findAndModify`, `distinct` and `listCollections`.
+
+ghost use Rattle.std.specs.Prelude.{◌≡◌, IfOk, false, map, string_bytes, true};
+ghost use Rattle.bson_base.specs.Value.{document as tree, no_items as nothing, scalar, string};
+ghost use Rattle.bson_json.specs.Prints.{IsTextOf};
+ghost use Rattle.bson_model.specs.View.{content, items_of as items_view, view};
+ghost use Rattle.bson_model.specs.declared.extjson.ser.Mode.TheVariants.{Relaxed};
+ghost use Rattle.fallowtime_plans.specs.Lines.{IsLine, IsMixed, line_of_texts};
+ghost use Rattle.fallowtime_plans.specs.Modifying.{AreChangedOptions, AreFoundOptions, AsksNoMore, IsDistinct, IsFindAndModify, finder, line_with_path};
+ghost use Rattle.fallowtime_words.specs.declared.command.Command.TheVariants as commands;
+
+use crate::asked::Statement;
+use crate::changes::{document_in, is_update};
+use crate::fault::{Code, Fault, refuse};
+use crate::lines::{
+    given, statement_by, statement_in_text, text_in, text_of, three_values, truth_in, value_in,
+};
+use crate::told::{changed_options, found_options};
+use bson_model::extjson::Mode;
+use bson_model::{Bson, Document};
+use fallowtime_texts::IdMaker;
+use fallowtime_words::Command;
+use std::alloc::{AllocError, Global};
+
+/// The text of a line whose four values have these texts.
+fn line_of_texts(
+    alloc: Global,
+    first: &str,
+    second: &str,
+    third: &str,
+    fourth: &str,
+) -> Result<String, AllocError>
+    ensures { IfOk result (λ t. string_bytes t ≡ line_of_texts first.now second.now third.now fourth.now) }
+{
+    let mut line = String::from_str(alloc, "[")?;
+    line.push_str(first)?;
+    line.push_str(",")?;
+    line.push_str(second)?;
+    line.push_str(",")?;
+    line.push_str(third)?;
+    line.push_str(",")?;
+    line.push_str(fourth)?;
+    line.push_str("]")?;
+    Ok(line)
+}
+
+/// The text of a name.
+fn name_text(alloc: Global, name: &str) -> Result<String, AllocError>
+    ensures { IfOk result (λ t. IsTextOf Relaxed (scalar (string name.now)) (string_bytes t)) }
+{
+    let value = Bson::String(String::from_str(alloc, name)?);
+    text_of(alloc, Mode::Relaxed, &value)
+}
+
+/// The text of a document.
+fn document_text(alloc: Global, mode: Mode, document: Document) -> Result<String, AllocError>
+    ensures { IfOk result (λ t. IsTextOf mode (tree (content document)) (string_bytes t)) }
+{
+    let mut text = String::new(alloc);
+    bson_json::write(alloc, &document, mode, &mut text)?;
+    Ok(text)
+}
+
+/// What the line of a command asks for with a collection, a query, what becomes of documents, and options.
+fn statement_mixed(
+    alloc: Global,
+    maker: &mut IdMaker,
+    command: Command,
+    name: &str,
+    query: Document,
+    work: Document,
+    options: Document,
+) -> Result<Statement, Fault>
+    ensures { IfOk result (IsMixed command name.now (content query) (content work) (content options)) }
+{
+    let first = name_text(alloc, name)?;
+    let second = document_text(alloc, Mode::Relaxed, query)?;
+    let third = document_text(alloc, Mode::Canonical, work)?;
+    let fourth = document_text(alloc, Mode::Relaxed, options)?;
+    let line = line_of_texts(
+        alloc,
+        first.as_str(),
+        second.as_str(),
+        third.as_str(),
+        fourth.as_str(),
+    )?;
+    statement_in_text(alloc, maker, command, &line)
+}
+
+/// The options of the line of `find-and-delete`.
+fn found_options_of(alloc: Global, command: &Document) -> Result<Document, Fault>
+    ensures { IfOk result (λ d. AreFoundOptions (content command.now) (content d)) }
+{
+    let sort = given(alloc, command, "sort")?;
+    let fields = given(alloc, command, "fields")?;
+    Ok(found_options(alloc, sort, fields)?)
+}
+
+/// The options of the lines of `find-and-update` and `find-and-replace`.
+fn changed_options_of(alloc: Global, command: &Document) -> Result<Document, Fault>
+    ensures { IfOk result (λ d. AreChangedOptions (content command.now) (content d)) }
+{
+    let sort = given(alloc, command, "sort")?;
+    let fields = given(alloc, command, "fields")?;
+    let after = truth_in(alloc, command, "new", false)?;
+    Ok(changed_options(alloc, sort, fields, after)?)
+}
+
+/// Refuses a command that removes and asks for more than that.
+fn alone(alloc: Global, command: &Document) -> Result<(), Fault>
+    ensures { IfOk result (λ _. AsksNoMore (content command.now)) }
+{
+    if truth_in(alloc, command, "new", false)? {
+        return Err(refuse(alloc, Code::BadValue, "new"));
+    }
+    if value_in(command, "update").is_some() {
+        return Err(refuse(alloc, Code::BadValue, "update"));
+    }
+    Ok(())
+}
+
+/// What `findAndModify` asks of a collection if it removes.
+fn removed(
+    alloc: Global,
+    maker: &mut IdMaker,
+    command: &Document,
+    name: &str,
+) -> Result<Statement, Fault>
+    ensures { IfOk result (IsFindAndModify true (content command.now) name.now) }
+{
+    alone(alloc, command)?;
+    let query = given(alloc, command, "query")?;
+    let options = found_options_of(alloc, command)?;
+    let values = three_values(alloc, name, query, options)?;
+    statement_by(alloc, maker, Command::FindAndDelete, Mode::Relaxed, values)
+}
+
+/// The command of the line that finds a document and changes it.
+fn finder(is_update: bool) -> Command
+    ensures { result ≡ finder is_update }
+{
+    if is_update {
+        Command::FindAndUpdate
+    } else {
+        Command::FindAndReplace
+    }
+}
+
+/// What `findAndModify` asks of a collection if it changes.
+fn changed(
+    alloc: Global,
+    maker: &mut IdMaker,
+    command: &Document,
+    name: &str,
+) -> Result<Statement, Fault>
+    ensures { IfOk result (IsFindAndModify false (content command.now) name.now) }
+{
+    let query = given(alloc, command, "query")?;
+    let work = document_in(alloc, command, "update")?;
+    let options = changed_options_of(alloc, command)?;
+    let line = finder(is_update(&work));
+    statement_mixed(alloc, maker, line, name, query, work, options)
+}
+
+/// What `findAndModify` asks of a collection, and whether it removes.
+pub(crate) fn modify_statement(
+    alloc: Global,
+    maker: &mut IdMaker,
+    command: &Document,
+    name: &str,
+    removes: bool,
+) -> Result<Statement, Fault>
+    ensures { IfOk result (IsFindAndModify removes (content command.now) name.now) }
+{
+    if removes {
+        removed(alloc, maker, command, name)
+    } else {
+        changed(alloc, maker, command, name)
+    }
+}
+
+/// A collection, a path and a document as the values of a line.
+fn values_with_path(
+    alloc: Global,
+    name: &str,
+    path: &str,
+    query: Document,
+) -> Result<Vec<Bson>, AllocError>
+    ensures { IfOk result (λ v. items_view (map view v.items) ≡ line_with_path name.now path.now (content query)) }
+{
+    let mut values = Vec::new(alloc);
+    values.push(Bson::String(String::from_str(alloc, name)?))?;
+    values.push(Bson::String(String::from_str(alloc, path)?))?;
+    values.push(Bson::Document(query))?;
+    Ok(values)
+}
+
+/// What `distinct` asks of a collection.
+pub(crate) fn distinct_statement(
+    alloc: Global,
+    maker: &mut IdMaker,
+    command: &Document,
+    name: &str,
+) -> Result<Statement, Fault>
+    ensures { IfOk result (IsDistinct (content command.now) name.now) }
+{
+    let path = text_in(alloc, command, "key")?;
+    let query = given(alloc, command, "query")?;
+    let values = values_with_path(alloc, name, path, query)?;
+    statement_by(alloc, maker, Command::Distinct, Mode::Canonical, values)
+}
+
+/// What `listCollections` asks.
+pub(crate) fn collections_statement(alloc: Global, maker: &mut IdMaker) -> Result<Statement, Fault>
+    ensures { IfOk result (IsLine Relaxed commands.Collections nothing) }
+{
+    statement_by(
+        alloc,
+        maker,
+        Command::Collections,
+        Mode::Relaxed,
+        Vec::new(alloc),
+    )
+}

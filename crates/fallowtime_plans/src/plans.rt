@@ -1,0 +1,294 @@
+//! What a command asks of the store.
+
+ghost use Rattle.std.specs.Prelude.{◌≡◌, [], IfOk, MatchResult, Some, codes, map, string_bytes};
+ghost use Rattle.bson_base.specs.Value.{array, look_up};
+ghost use Rattle.bson_model.specs.View.{content, items_of, view};
+ghost use Rattle.fallowtime_plans.specs.Plans.{Asks, AsksBy, IsOf, IsRefused, namespace};
+ghost use Rattle.fallowtime_plans.specs.declared.name.Name.TheVariants as names;
+
+use crate::asked::{Plan, Way};
+use crate::changes::{changes_of, removals_of};
+use crate::counting::counting_in;
+use crate::fault::{Code, Fault, refuse};
+use crate::fields::allowed;
+use crate::lines::{
+    count_by, count_statement, find_statement, part_in, text_in, truth_in, value_in,
+};
+use crate::lists::{copies_of, listed};
+use crate::modifying::{collections_statement, distinct_statement, modify_statement};
+use crate::name::{Name, first_key, name_of};
+use crate::told::{build_info, hello, no_cursors, ping};
+use bson_message::Sequence;
+use bson_model::{Array, Bson, Document};
+use fallowtime_texts::IdMaker;
+use std::alloc::{AllocError, Global};
+
+/// The collection that a command is of. `InvalidNamespace` if it is one of another database or of none, `BadValue` if
+/// its name is no text.
+fn collection_of<'d>(
+    alloc: Global,
+    database: &str,
+    command: &'d Document,
+    key: &str,
+) -> Result<&'d str, Fault>
+    ensures { IfOk result (λ n. IsOf database.now key.now (content command.now) n.now) }
+{
+    if text_in(alloc, command, "$db")? != database {
+        return Err(refuse(alloc, Code::InvalidNamespace, database));
+    }
+    text_in(alloc, command, key)
+}
+
+/// The name of a collection behind that of its database.
+fn namespace(alloc: Global, database: &str, name: &str) -> Result<String, AllocError>
+    ensures { IfOk result (λ t. string_bytes t ≡ namespace database.now name.now) }
+{
+    let mut text = String::from_str(alloc, database)?;
+    text.push_str(".")?;
+    text.push_str(name)?;
+    Ok(text)
+}
+
+/// What `count` asks, and of it `skip` and `limit`.
+fn count(
+    alloc: Global,
+    maker: &mut IdMaker,
+    database: &str,
+    command: &Document,
+) -> Result<Plan, Fault>
+    ensures { IfOk result (AsksBy names.Count database.now (content command.now) []) }
+{
+    let name = collection_of(alloc, database, command, "count")?;
+    let (skip, most) = part_in(alloc, command)?;
+    let statement = count_statement(alloc, maker, command, name)?;
+    Ok(Plan::One(statement, Way::Counted(skip, most)))
+}
+
+/// What `find` asks.
+fn find(
+    alloc: Global,
+    maker: &mut IdMaker,
+    database: &str,
+    command: &Document,
+) -> Result<Plan, Fault>
+    ensures { IfOk result (AsksBy names.Find database.now (content command.now) []) }
+{
+    let name = collection_of(alloc, database, command, "find")?;
+    let statement = find_statement(alloc, maker, command, name)?;
+    Ok(Plan::One(statement, Way::Found(namespace(alloc, database, name)?)))
+}
+
+/// What `insert` asks.
+fn insert(
+    alloc: Global,
+    database: &str,
+    command: &Document,
+    lists: &[Sequence<'_>],
+) -> Result<Plan, Fault>
+    ensures { IfOk result (AsksBy names.Insert database.now (content command.now) lists.now) }
+{
+    let name = collection_of(alloc, database, command, "insert")?;
+    let ordered = truth_in(alloc, command, "ordered", true)?;
+    let documents = listed(alloc, command, lists, "documents")?;
+    Ok(Plan::Inserts(String::from_str(alloc, name)?, documents, ordered))
+}
+
+/// What `update` asks: a change for each of its statements.
+fn update(
+    alloc: Global,
+    maker: &mut IdMaker,
+    database: &str,
+    command: &Document,
+    lists: &[Sequence<'_>],
+) -> Result<Plan, Fault>
+    ensures { IfOk result (AsksBy names.Update database.now (content command.now) lists.now) }
+{
+    let name = collection_of(alloc, database, command, "update")?;
+    let ordered = truth_in(alloc, command, "ordered", true)?;
+    let items = listed(alloc, command, lists, "updates")?;
+    let statements = changes_of(alloc, maker, name, items.as_slice())?;
+    Ok(Plan::Writes(statements, ordered, true))
+}
+
+/// What `delete` asks: a removal for each of its statements.
+fn delete(
+    alloc: Global,
+    maker: &mut IdMaker,
+    database: &str,
+    command: &Document,
+    lists: &[Sequence<'_>],
+) -> Result<Plan, Fault>
+    ensures { IfOk result (AsksBy names.Delete database.now (content command.now) lists.now) }
+{
+    let name = collection_of(alloc, database, command, "delete")?;
+    let ordered = truth_in(alloc, command, "ordered", true)?;
+    let items = listed(alloc, command, lists, "deletes")?;
+    let statements = removals_of(alloc, maker, name, items.as_slice())?;
+    Ok(Plan::Writes(statements, ordered, false))
+}
+
+/// What `aggregate` asks, if its pipeline counts.
+fn aggregate(
+    alloc: Global,
+    maker: &mut IdMaker,
+    database: &str,
+    command: &Document,
+) -> Result<Plan, Fault>
+    ensures { IfOk result (AsksBy names.Aggregate database.now (content command.now) []) }
+{
+    let name = collection_of(alloc, database, command, "aggregate")?;
+    let counting = counting_in(alloc, command)?;
+    let statement = count_by(alloc, maker, name, counting.query)?;
+    let space = namespace(alloc, database, name)?;
+    Ok(Plan::One(
+        statement,
+        Way::Grouped(space, counting.id, counting.skip, counting.most),
+    ))
+}
+
+/// What `findAndModify` asks.
+fn find_and_modify(
+    alloc: Global,
+    maker: &mut IdMaker,
+    database: &str,
+    command: &Document,
+) -> Result<Plan, Fault>
+    ensures { IfOk result (AsksBy names.FindAndModify database.now (content command.now) []) }
+{
+    let name = collection_of(alloc, database, command, "findAndModify")?;
+    let removes = truth_in(alloc, command, "remove", false)?;
+    let statement = modify_statement(alloc, maker, command, name, removes)?;
+    Ok(Plan::One(statement, Way::Modified(removes)))
+}
+
+/// What `distinct` asks.
+fn distinct(
+    alloc: Global,
+    maker: &mut IdMaker,
+    database: &str,
+    command: &Document,
+) -> Result<Plan, Fault>
+    ensures { IfOk result (AsksBy names.Distinct database.now (content command.now) []) }
+{
+    let name = collection_of(alloc, database, command, "distinct")?;
+    let statement = distinct_statement(alloc, maker, command, name)?;
+    Ok(Plan::One(statement, Way::Different))
+}
+
+/// What `listCollections` asks.
+fn list_collections(
+    alloc: Global,
+    maker: &mut IdMaker,
+    database: &str,
+    command: &Document,
+) -> Result<Plan, Fault>
+    ensures { IfOk result (AsksBy names.ListCollections database.now (content command.now) []) }
+{
+    if text_in(alloc, command, "$db")? != database {
+        return Err(refuse(alloc, Code::InvalidNamespace, database));
+    }
+    let statement = collections_statement(alloc, maker)?;
+    let space = namespace(alloc, database, "$cmd.listCollections")?;
+    Ok(Plan::One(statement, Way::Named(space)))
+}
+
+/// A copy of an array. `BadValue` if a value is none.
+fn cursors_in(alloc: Global, value: &Bson) -> Result<Array, Fault>
+    ensures { IfOk result (λ ids. view value.now ≡ array (items_of (map view ids.items))) }
+{
+    match value {
+        Bson::Array(ids) => Ok(copies_of(alloc, ids.as_slice())?),
+        _ => Err(refuse(alloc, Code::BadValue, "cursors")),
+    }
+}
+
+/// A copy of the array under `cursors`.
+fn cursors_of(alloc: Global, command: &Document) -> Result<Array, Fault>
+    ensures { IfOk result (λ ids. look_up (codes "cursors") (content command.now) ≡ Some (array (items_of (map view ids.items)))) }
+{
+    match value_in(command, "cursors") {
+        Some(value) => cursors_in(alloc, value),
+        None => Err(refuse(alloc, Code::BadValue, "cursors")),
+    }
+}
+
+/// What `killCursors` asks: nothing, as there are no cursors.
+fn kill_cursors(alloc: Global, database: &str, command: &Document) -> Result<Plan, Fault>
+    ensures { IfOk result (AsksBy names.KillCursors database.now (content command.now) []) }
+{
+    let ids = cursors_of(alloc, command)?;
+    Ok(Plan::Told(no_cursors(alloc, ids)?))
+}
+
+/// What a command without sequences asks.
+fn alone(
+    alloc: Global,
+    maker: &mut IdMaker,
+    name: Name,
+    database: &str,
+    command: &Document,
+) -> Result<Plan, Fault>
+    ensures { IfOk result (AsksBy name database.now (content command.now) []) }
+{
+    match name {
+        Name::Hello => Ok(Plan::Told(hello(alloc)?)),
+        Name::Ping | Name::EndSessions => Ok(Plan::Told(ping(alloc)?)),
+        Name::BuildInfo => Ok(Plan::Told(build_info(alloc)?)),
+        Name::Count => count(alloc, maker, database, command),
+        Name::Find => find(alloc, maker, database, command),
+        Name::Aggregate => aggregate(alloc, maker, database, command),
+        Name::FindAndModify => find_and_modify(alloc, maker, database, command),
+        Name::Distinct => distinct(alloc, maker, database, command),
+        Name::ListCollections => list_collections(alloc, maker, database, command),
+        Name::KillCursors => kill_cursors(alloc, database, command),
+        Name::GetMore => Err(refuse(alloc, Code::CursorNotFound, "getMore")),
+        _ => Err(refuse(alloc, Code::NotImplemented, "command")),
+    }
+}
+
+/// What a command asks that has no key which it may not have.
+fn by_name(
+    alloc: Global,
+    maker: &mut IdMaker,
+    name: Name,
+    database: &str,
+    command: &Document,
+    lists: &[Sequence<'_>],
+) -> Result<Plan, Fault>
+    ensures { IfOk result (AsksBy name database.now (content command.now) lists.now) }
+{
+    match name {
+        Name::Insert => insert(alloc, database, command, lists),
+        Name::Update => update(alloc, maker, database, command, lists),
+        Name::Delete => delete(alloc, maker, database, command, lists),
+        _ => match lists {
+            [] => alone(alloc, maker, name, database, command),
+            [list, ..] => Err(refuse(alloc, Code::UnknownField, list.name)),
+        },
+    }
+}
+
+/// What a command asks of the file of this database. The maker makes the `_id` of a document that has none where an
+/// upsert would put it in.
+///
+/// `CommandNotFound` with the first key if no command has this name; the errors of `allowed`; and otherwise the error of
+/// the first part that can't be read, with its key.
+pub fn plan(
+    alloc: Global,
+    maker: &mut IdMaker,
+    database: &str,
+    command: &Document,
+    lists: &[Sequence<'_>],
+) -> Result<Plan, Fault>
+    ensures { MatchResult result (Asks database.now (content command.now) lists.now)
+        (IsRefused (content command.now)) }
+{
+    let Some(key) = first_key(command) else {
+        return Err(refuse(alloc, Code::CommandNotFound, ""));
+    };
+    let Some(name) = name_of(key) else {
+        return Err(refuse(alloc, Code::CommandNotFound, key));
+    };
+    allowed(alloc, name, command)?;
+    by_name(alloc, maker, name, database, command, lists)
+}
