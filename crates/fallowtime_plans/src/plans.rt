@@ -74,8 +74,9 @@ fn find(
     ensures { IfOk result (AsksBy names.Find database.now (content command.now) []) }
 {
     let name = collection_of(alloc, database, command, "find")?;
+    let space = namespace(alloc, database, name)?;
     let statement = find_statement(alloc, maker, command, name)?;
-    Ok(Plan::One(statement, Way::Found(namespace(alloc, database, name)?)))
+    Ok(Plan::One(statement, Way::Found(space)))
 }
 
 /// What `insert` asks.
@@ -138,8 +139,8 @@ fn aggregate(
 {
     let name = collection_of(alloc, database, command, "aggregate")?;
     let counting = counting_in(alloc, command)?;
-    let statement = count_by(alloc, maker, name, counting.query)?;
     let space = namespace(alloc, database, name)?;
+    let statement = count_by(alloc, maker, name, counting.query)?;
     Ok(Plan::One(
         statement,
         Way::Grouped(space, counting.id, counting.skip, counting.most),
@@ -187,8 +188,8 @@ fn list_collections(
     if text_in(alloc, command, "$db")? != database {
         return Err(refuse(alloc, Code::InvalidNamespace, database));
     }
-    let statement = collections_statement(alloc, maker)?;
     let space = namespace(alloc, database, "$cmd.listCollections")?;
+    let statement = collections_statement(alloc, maker)?;
     Ok(Plan::One(statement, Way::Named(space)))
 }
 
