@@ -1,5 +1,5 @@
 -- Pipelines that count.
-use Rattle.std.proofs.Common.{◌≡◌, inl, inr, pos, ℕ, suc, List, [], ◌∷◌, length, Option, Some, None, Result, Ok, Err, IfOk, codes, refl, ap, sym, ◌∙◌, subst}
+use Rattle.std.proofs.Common.{◌≡◌, inl, inr, pos, ℕ, suc, List, [], ◌∷◌, length, Option, Some, None, Result, Ok, Err, IfOk, codes, refl, ap, sym, ◌∙◌}
 use Rattle.bson_base.specs.Value.{Members, Value, array, int32, look_up, scalar}
 use Rattle.bson_model.specs.View.{content, items_of, members_of, view}
 use Rattle.bson_model.specs.declared.bson.Bson.{Bson}

@@ -1,12 +1,12 @@
 -- The lines that `findAndModify` and `distinct` are.
-use Rattle.std.proofs.Common.{◌≡◌, ℕ, Bool, true, false, List, Some, Result, Ok, Err, IfOk, codes, refl, subst, sym}
+use Rattle.std.proofs.Common.{◌≡◌, ℕ, true, false, List, Some, Result, Ok, Err, IfOk, codes, subst}
 use Rattle.bson_base.specs.Value.{Items, Members, document, look_up, scalar, string}
 use Rattle.bson_json.specs.Prints.{IsTextOf}
 use Rattle.bson_model.specs.declared.extjson.ser.Mode.TheVariants.{Canonical, Relaxed}
 use Rattle.fallowtime_words.specs.declared.command.Command.{Command}
 use Rattle.fallowtime_words.specs.declared.command.Command.TheVariants as command
 use Rattle.fallowtime_plans.specs.Changes.{is_update}
-use Rattle.fallowtime_plans.specs.Lines.{IsGiven, IsLine, IsMixed, IsRead, IsThere, IsTruth, line_of_texts, line_of_three}
+use Rattle.fallowtime_plans.specs.Lines.{IsGiven, IsLine, IsMixed, IsRead, IsThere, line_of_texts, line_of_three}
 use Rattle.fallowtime_plans.specs.Modifying.{AreChangedOptions, AreFoundOptions, AsksNoMore, IsDistinct, IsFindAndModify, finder, line_with_path}
 use Rattle.fallowtime_plans.specs.declared.asked.Statement.{Statement}
 use Rattle.fallowtime_plans.specs.declared.fault.Fault.{Fault}

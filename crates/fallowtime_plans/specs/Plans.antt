@@ -1,7 +1,7 @@
 -- What a command asks of the store, and how it is answered.
-use Rattle.std.specs.Prelude.{◌≡◌, ◌⊎◌, ℕ, Bool, true, false, List, [], ◌∷◌, ◌++◌, codes, Option, Some, None, string_bytes}
+use Rattle.std.specs.Prelude.{◌≡◌, ◌⊎◌, ℕ, Bool, true, false, List, [], ◌∷◌, ◌++◌, codes, Some, None, string_bytes}
 use Rattle.std.specs.List.{AllZip}
-use Rattle.bson_base.specs.Value.{Value, Items, Members, array, document, look_up, member, no_items, no_members, scalar, string}
+use Rattle.bson_base.specs.Value.{Value, Items, Members, array, document, look_up, no_items, scalar, string}
 use Rattle.bson_bytes.specs.Encode.{encode}
 use Rattle.bson_message.specs.Parts.{AreDocuments}
 use Rattle.bson_message.specs.declared.section.Sequence.{Sequence}

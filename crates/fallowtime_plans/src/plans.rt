@@ -1,7 +1,7 @@
 //! What a command asks of the store.
 
 ghost use Rattle.std.specs.Prelude.{◌≡◌, [], IfOk, MatchResult, Some, codes, map, string_bytes};
-ghost use Rattle.bson_base.specs.Value.{array, look_up};
+ghost use Rattle.bson_base.specs.Value.{array, look_up, scalar, string};
 ghost use Rattle.bson_model.specs.View.{content, items_of, view};
 ghost use Rattle.fallowtime_plans.specs.Plans.{Asks, AsksBy, IsOf, IsRefused, namespace};
 ghost use Rattle.fallowtime_plans.specs.declared.name.Name.TheVariants as names;
@@ -74,8 +74,9 @@ fn find(
     ensures { IfOk result (AsksBy names.Find database.now (content command.now) []) }
 {
     let name = collection_of(alloc, database, command, "find")?;
+    let space = namespace(alloc, database, name)?;
     let statement = find_statement(alloc, maker, command, name)?;
-    Ok(Plan::One(statement, Way::Found(namespace(alloc, database, name)?)))
+    Ok(Plan::One(statement, Way::Found(space)))
 }
 
 /// What `insert` asks.
@@ -138,8 +139,8 @@ fn aggregate(
 {
     let name = collection_of(alloc, database, command, "aggregate")?;
     let counting = counting_in(alloc, command)?;
-    let statement = count_by(alloc, maker, name, counting.query)?;
     let space = namespace(alloc, database, name)?;
+    let statement = count_by(alloc, maker, name, counting.query)?;
     Ok(Plan::One(
         statement,
         Way::Grouped(space, counting.id, counting.skip, counting.most),
@@ -175,6 +176,16 @@ fn distinct(
     Ok(Plan::One(statement, Way::Different))
 }
 
+/// Refuses a command over another database. `InvalidNamespace` if it is one, `BadValue` if its name is no text.
+fn of_database(alloc: Global, database: &str, command: &Document) -> Result<(), Fault>
+    ensures { IfOk result (λ _. look_up (codes "$db") (content command.now) ≡ Some (scalar (string database.now))) }
+{
+    if text_in(alloc, command, "$db")? != database {
+        return Err(refuse(alloc, Code::InvalidNamespace, database));
+    }
+    Ok(())
+}
+
 /// What `listCollections` asks.
 fn list_collections(
     alloc: Global,
@@ -184,11 +195,9 @@ fn list_collections(
 ) -> Result<Plan, Fault>
     ensures { IfOk result (AsksBy names.ListCollections database.now (content command.now) []) }
 {
-    if text_in(alloc, command, "$db")? != database {
-        return Err(refuse(alloc, Code::InvalidNamespace, database));
-    }
-    let statement = collections_statement(alloc, maker)?;
+    of_database(alloc, database, command)?;
     let space = namespace(alloc, database, "$cmd.listCollections")?;
+    let statement = collections_statement(alloc, maker)?;
     Ok(Plan::One(statement, Way::Named(space)))
 }
 

@@ -1,5 +1,4 @@
-use Rattle.std.proofs.Common.{map, subst, IfOk}
-use Rattle.bson_model.specs.View.{content, items_of, view}
+use Rattle.std.proofs.Common.{subst, IfOk}
 use Rattle.bson_model.specs.declared.extjson.ser.Mode.TheVariants.{Relaxed}
 use Rattle.fallowtime_words.specs.declared.command.Command.TheVariants as command
 use Rattle.fallowtime_plans.specs.Lines.{IsLine}

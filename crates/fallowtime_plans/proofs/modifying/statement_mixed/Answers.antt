@@ -1,4 +1,4 @@
-use Rattle.std.proofs.Common.{ap, string_bytes, ◌∙◌}
+use Rattle.std.proofs.Common.{string_bytes}
 use Rattle.bson_model.specs.View.{content}
 use Rattle.fallowtime_plans.proofs.ModifyLemmas.{mixed}
 use Rattle.fallowtime_plans.proofs.modifying.statement_mixed.Goals as goal
