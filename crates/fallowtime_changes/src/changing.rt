@@ -13,6 +13,7 @@ ghost use Rattle.fallowtime_commands.specs.Performing.{IsAnswerTo, Performs, rep
 ghost use Rattle.fallowtime_commands.specs.Setting.{Sets};
 ghost use Rattle.fallowtime_commands.specs.Storing.{Puts, Stores};
 ghost use Rattle.fallowtime_changes.specs.Left.{LeavesPut, LeavesRequest, LeavesSet, LeavesStored};
+ghost use Rattle.fallowtime_changes.specs.Single.{is_of_one};
 
 use bson_model::{Bson, Document};
 use fallowtime_commands::answer::{flag, inserted, nothing};
@@ -25,7 +26,9 @@ use store_model::{ErrorKind, StoreError};
 use store_writer::Writer;
 
 /// Whether a request changes one document that it names by its `_id`.
-pub fn is_of_one(request: &Request<'_>) -> bool {
+pub fn is_of_one(request: &Request<'_>) -> bool
+    ensures { result ≡ is_of_one request.now }
+{
     matches!(
         request,
         Request::Insert(_, _)
