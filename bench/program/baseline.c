@@ -1,5 +1,5 @@
-/* The program's commands on one table, by libbson and SQLite: baseline FILE import|export|find|get|dump|load [WORD WORD]. The collection is `c`. find takes a dotted path and a text,
- * get the number of an `_id`. It tests less than bson_store: neither repeated keys nor patterns, and `_id`s are told apart by their bytes. */
+/* The program's commands on one table, by libbson and SQLite: baseline FILE import|export|find|lines|count|get|insert|dump|load [WORD WORD]. The collection is `c`. find takes a dotted
+ * path and a text, and so do lines, which is find in Extended JSON, and count; get takes the number of an `_id`, and insert a document in Extended JSON. It tests less than bson_store: neither repeated keys nor patterns, and `_id`s are told apart by their bytes. */
 #include <bson/bson.h>
 #include <sqlite3.h>
 #include <stdint.h>
@@ -109,6 +109,30 @@ static bool is_text(const bson_t *document, const char *path, const char *want) 
     return length == strlen(want) && memcmp(text, want, length) == 0;
 }
 
+/* Puts one document in, and copies the log into the file, as whoever closes it last does. */
+static void insert(const char *json) {
+    bson_error_t error;
+    bson_t *document = bson_new_from_json((const uint8_t *)json, -1, &error);
+    if (!document) fail("json");
+    sqlite3_stmt *insert = prepare("INSERT INTO documents VALUES (?1, 'c', ?2, ?3)");
+    put(insert, last_place() + 1, document);
+    bson_destroy(document);
+    sqlite3_finalize(insert);
+    sqlite3_close(database);
+}
+
+/* How many documents have a text at a path. */
+static void count(const char *path, const char *want) {
+    sqlite3_stmt *all = prepare("SELECT body FROM documents WHERE +coll = 'c'");
+    long long found = 0;
+    while (sqlite3_step(all) == SQLITE_ROW) {
+        bson_t document;
+        if (!bson_init_static(&document, sqlite3_column_blob(all, 0), sqlite3_column_bytes(all, 0))) fail("length");
+        found += is_text(&document, path, want);
+    }
+    printf("%lld\n", found);
+}
+
 /* Writes all documents, those with a text at a path, or each as a line of JSON. */
 static void write_all(const char *path, const char *want, bool json) {
     sqlite3_stmt *all = prepare("SELECT body FROM documents WHERE +coll = 'c' ORDER BY place");
@@ -146,7 +170,10 @@ int main(int argc, char **argv) {
     else if (!strcmp(argv[2], "export")) write_all(NULL, NULL, false);
     else if (!strcmp(argv[2], "dump")) write_all(NULL, NULL, true);
     else if (!strcmp(argv[2], "find") && argc == 5) write_all(argv[3], argv[4], false);
+    else if (!strcmp(argv[2], "lines") && argc == 5) write_all(argv[3], argv[4], true);
+    else if (!strcmp(argv[2], "count") && argc == 5) count(argv[3], argv[4]);
     else if (!strcmp(argv[2], "get") && argc == 4) get(argv[3]);
+    else if (!strcmp(argv[2], "insert") && argc == 4) insert(argv[3]);
     else return 2;
     return 0;
 }

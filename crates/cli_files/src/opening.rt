@@ -17,6 +17,10 @@ const PAGE: u64 = 4096;
 /// little.
 const LEAST_PAGES: usize = 256;
 
+/// How many pages are kept in memory for a command that needs few: more than a change of one document reads on its ways
+/// through table and index, and few enough that their room takes less than the command itself.
+const FEW_PAGES: usize = 32;
+
 /// How many pages are kept in memory at most, 64 MiB: else a file of gigabytes would take as much memory.
 const MOST_PAGES: usize = 16384;
 
@@ -77,7 +81,7 @@ fn lock<S: Start>(rt: &HostRuntime, path: &str, start: S) -> Result<Files<FileFr
 
 /// The options of whoever needs few pages of a file, however large it is.
 pub fn options_of_few(rt: &HostRuntime) -> io::Result<Options> {
-    options_for(rt, LEAST_PAGES)
+    options_for(rt, FEW_PAGES)
 }
 
 /// Opens the database file at a path, which is made if it isn't there, and which no other process may have. A refused

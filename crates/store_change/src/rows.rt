@@ -18,14 +18,37 @@ use store_writer::Writer;
 /// Where the kind of an `_id` stands in its key.
 const KIND_AT: usize = 4;
 
+/// Where the bytes of its value stand, behind the kind and the name.
+const VALUE_AT: usize = 9;
+
 /// The kinds that may hold a double: double, document, array, code with a scope.
 const MAY_HOLD_DOUBLES: &[u8] = &[0x01, 0x03, 0x04, 0x0f];
 
+/// How many bytes a double has, which are all zero in a key if the double is.
+const DOUBLE: u32 = 8;
+
+/// Whether so many bytes as a double has are zero, one behind the other.
+fn may_hold_zero(bytes: &[u8]) -> bool {
+    let mut zeros = 0u32;
+    for byte in bytes {
+        zeros = if *byte == 0 {
+            zeros.saturating_add(1)
+        } else {
+            0
+        };
+        if zeros >= DOUBLE {
+            return true;
+        }
+    }
+    false
+}
+
 /// Whether a store may have the document under another key than this: one from before the two zeros of a double meant
-/// the same.
+/// the same. Some keys of values that hold no zero double look as if they did.
 pub(crate) fn may_have_older(key: &[u8]) -> bool {
     match key.get(KIND_AT) {
-        Some(kind) => MAY_HOLD_DOUBLES.contains(kind),
+        Some(kind) => MAY_HOLD_DOUBLES.contains(kind)
+            && may_hold_zero(&key[VALUE_AT.min(key.len())..]),
         None => true,
     }
 }

@@ -8,3 +8,4 @@ pub mod PoolLemmas
 pub mod LastLemmas
 pub mod DocLemmas
 pub mod WriterLemmas
+pub mod GivenBackLemmas

@@ -33,7 +33,7 @@ use Rattle.store_reader.proofs.SizeLemmas.{stored_is}
 use Rattle.store_writer.specs.Store.{trees_of, HasStore, HoldRows}
 
 -- such pages end in no sum
-none_reserved : (size : ℕ) → IsPageSize size → reserved size ≡ 0
+pub none_reserved : (size : ℕ) → IsPageSize size → reserved size ≡ 0
 none_reserved size sized = let off : eqb (size % 16) 8 ≡ false = ne_eqb (size % 16) 8 (λ e. omega (arith, sized.3, e)) in rw off refl
 
 pub plain_size : (size : ℕ) → IsPageSize size → size % 16 ≢ 8

@@ -1,2 +1,3 @@
+pub mod GivenBack
 pub mod Store
 pub mod Writer

@@ -9,10 +9,11 @@ ghost use Rattle.sqlite_wal.specs.State.{StaysOrFails};
 ghost use Rattle.sqlite_btree.specs.Cut.{IsIn};
 ghost use Rattle.sqlite_trees.specs.Tree.{Trees};
 ghost use Rattle.sqlite.specs.Effect.{Database};
-ghost use Rattle.sqlite.specs.Files.{HoldsDatabase};
+ghost use Rattle.sqlite.specs.Files.{HoldsDatabase, IsNothing, image_of};
 ghost use Rattle.store_table.specs.Rows.{TableRow, HasRows, is_row_named, last_place, with_body_at, without_place};
 ghost use Rattle.store_table.specs.Moves.{IsRoomFor, with_row};
 ghost use Rattle.store_table.specs.declared.fault.Fault.TheVariants.{Places};
+ghost use Rattle.store_writer.specs.GivenBack.{AreGivenBack};
 ghost use Rattle.store_writer.specs.Store.{HoldRows, row_at};
 
 use crate::opening::{own_roots, recover};
@@ -52,7 +53,9 @@ impl<D: Disk + Drop> Writer<D> {
     ghost use Rattle.store_writer.specs.Writer.{state_of, size_of, Serves, Leaves, LeavesEither};
 
     /// Opens the table of a store in its files. They are given back if they can't be read, or if pages alone don't tell
-    /// what they have: if the schema has anything else, or the header says that pages end in reserved bytes.
+    /// what they have: if there is no database yet, if the schema has anything else, or if the header says that pages
+    /// end in reserved bytes. Where there is none yet nothing of them is written, so whoever makes one finds what an
+    /// opening that was killed has left.
     pub fn open(alloc: Global, files: Files<D>, options: Options) -> Result<Writer<D>, Files<D>>
         requires log_usable { IsTrue (D.Disk.is_usable files.log) }
         requires db_usable { IsTrue (D.Disk.is_usable files.db) }
@@ -60,6 +63,8 @@ impl<D: Disk + Drop> Writer<D> {
             → HoldsDatabase (seen_image D.Disk files.log files.db) trees → HasRows first trees docs → Serves first it docs) }
         ensures leaves { IfOk result (λ it. IsTrue (state_of it).is_clean → (first : Database) (trees : Trees) (docs : List TableRow)
             → HoldsDatabase (seen_image D.Disk files.log files.db) trees → HasRows first trees docs → Leaves first it docs) }
+        ensures something { IfOk result (λ it. IsTrue (state_of it).is_clean → ¬ IsNothing (image_of D.Disk files)) }
+        ensures back { IfErr result (λ left. AreClean D.Disk left.log left.db → AreGivenBack D.Disk files left) }
     {
         let mut pool = match recover(alloc, files, options) {
             Ok(pool) => pool,
