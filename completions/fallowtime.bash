@@ -33,7 +33,7 @@ _fallowtime_files() {
 
 _fallowtime() {
     local word=${COMP_WORDS[COMP_CWORD]} before=${COMP_WORDS[COMP_CWORD - 1]} options=--wait front
-    local commands=(insert put replace get set unset update replace-one delete find-and-update find-and-replace find-and-delete remove find count distinct import export collections check backup import-all export-all edit)
+    local commands=(insert put replace get set unset update replace-one delete find-and-update find-and-replace find-and-delete remove find count distinct import export drop rename copy collections check backup import-all export-all edit)
     COMPREPLY=()
     if [ "$COMP_CWORD" -eq 1 ]; then
         case $word in -*) _fallowtime_among "$word" --help --version --explain ;; *) _fallowtime_files "$word" ;; esac
@@ -72,7 +72,8 @@ _fallowtime() {
     distinct) front=5 options="--count --canonical --wait" ;;
     import) front=4 options="--json --wait" ;;
     edit) front=5 ;;
-    export | backup | import-all | export-all) front=4 ;;
+    export | drop | backup | import-all | export-all) front=4 ;;
+    rename | copy) front=5 ;;
     collections | check) front=3 ;;
     *) return ;;
     esac

@@ -65,6 +65,9 @@ COMMANDS = {
     "count": (["c"], []),
     "import": (["c"], ["--json"]),
     "export": (["c"], []),
+    "drop": (["c"], []),
+    "rename": (["c", "d"], []),
+    "copy": (["c", "d"], []),
     "collections": ([], []),
     "check": ([], []),
     "backup": (["copy.db"], []),
@@ -290,6 +293,17 @@ for line, count in [('delete ups {"n":7}', 0), ("delete none {} --many", 0), ('d
         done("find ups", '{"_id":1,"n":2,"a":{},"l":[2,1],"b":1.5,"m":-1}', '{"_id":3,"n":"x","a":{"b":1.5}}')
 done("find ups")
 refused(["delete", "", "{}"], "BadName")
+for words in ["put whole {\"_id\":2,\"a\":{}}", "put whole {\"_id\":1}", "put other {\"_id\":1}"]:
+    done(words)
+for line, printed in [("copy whole copied", "2"), ("find copied", ['{"_id":2,"a":{}}', '{"_id":1}']), ("rename copied moved", "2"), ("find copied", []),
+                      ("find moved", ['{"_id":2,"a":{}}', '{"_id":1}']), ("find whole", ['{"_id":2,"a":{}}', '{"_id":1}']), ("drop moved", "2"), ("find moved", []),
+                      ("drop moved", "0"), ("drop other", "1"), ("rename whole other", "2"), ("count other", "2"), ("drop other", "2")]:
+    done(line, *([printed] if isinstance(printed, str) else printed))
+done('put whole {"_id":2}')
+for words, kind in [("rename none new", "NotFound"), ("copy none whole", "NotFound"), ("rename whole whole", "DuplicateId"), ("copy whole whole", "DuplicateId"),
+                    (["copy", "whole", ""], "BadName"), (["rename", "", "whole"], "BadName"), (["drop", ""], "BadName")]:
+    refused(words, kind)
+done("drop whole", "1")
 done("remove orders 9")
 refused("remove orders 9", "NotFound _id 9")
 for line in ['put orders {"a":1}', 'replace orders {"a":1}', "put orders {}"]:

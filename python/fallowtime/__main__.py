@@ -12,9 +12,12 @@ from ._program import find_program, run
 
 def main() -> None:
     """Prints the version of the package and where it is, and the same of the program. The status is 1 if there is no
-    program, and 2 if there are words."""
+    program, and 2 if there are words; at a terminal a second line says whose words they may be."""
     if len(sys.argv) > 1:
         print("words: python -m fallowtime", file=sys.stderr)
+        if sys.stderr.isatty():
+            print("python -m fallowtime: commands are words of fallowtime, and python -m fallowtime.serve FILE is for"
+                  " drivers", file=sys.stderr)
         sys.exit(2)
     folder = os.path.dirname(os.path.abspath(__file__))
     print(f"package {__version__}, of Python {platform.python_version()}: {folder}")

@@ -55,7 +55,6 @@ OF_COLLECTION = {
     "drop_search_index": _SEARCHED,
     "find_raw_batches": "export gives the bytes of BSON",
     "list_search_indexes": _SEARCHED,
-    "rename": "a request puts documents in or removes them, and to do both would be two steps",
     "update_search_index": _SEARCHED,
     "watch": "changes aren't reported",
 }

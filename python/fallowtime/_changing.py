@@ -12,8 +12,8 @@ from typing import Any, Callable, Dict, Iterable, List, Optional, Sequence, Tupl
 
 from ._absent import refuse, test_options
 from ._bulk import Bulk, insert_each
-from ._encode import encode_document, encode_value, test_document
-from ._errors import (IMMUTABLE, DuplicateKeyError, InsertManyError, InvalidOperation, InvalidWriteError,
+from ._encode import encode_document, encode_text, encode_value, test_document
+from ._errors import (IMMUTABLE, NO_SOURCE, TARGET_EXISTS, DuplicateKeyError, InsertManyError, InvalidOperation, InvalidWriteError,
                       OperationFailure, Refused)
 from ._items import ItemUpdate, item_update_of
 from ._part import FIRST, Part
@@ -30,6 +30,10 @@ from ._wanted import Wanted, wanted_of
 Hint = Any
 # Options of the program's changes.
 MANY, UPSERT, UPSERT_OF_MANY = '{"many":true}', '{"upsert":true}', '{"many":true,"upsert":true}'
+
+# Why a collection isn't renamed, by the kind of the refusal.
+OF_RENAME = {
+    "NotFound": ("source namespace does not exist", NO_SOURCE), "DuplicateId": ("target namespace exists", TARGET_EXISTS)}
 
 
 class Changing(Reading):
@@ -229,8 +233,26 @@ class Changing(Reading):
         """Removes all documents, in one step, and drops the indexes."""
         test_options("drop", options)
         with self._session.lock:
-            self.delete_many({})
+            self._ask("drop")
             self.drop_indexes()
+
+    def rename(self, new_name: str, dropTarget: bool = False, **options: Any) -> Dict[str, Any]:
+        """Gives its documents, in their order and in one step, and its indexes to the collection of another name.
+
+        OperationFailure if there is no document, or if the other collection has one.
+        """
+        test_options("rename", options)
+        if dropTarget:
+            refuse("dropTarget of rename", "to remove a collection and to rename another one would be two steps")
+        with self._session.lock:
+            try:
+                self._ask("rename", encode_text(new_name))
+            except Refused as refused:
+                if refused.kind not in OF_RENAME:
+                    raise
+                raise OperationFailure(*OF_RENAME[refused.kind]) from None
+            self._rename_indexes(new_name)
+        return {"ok": 1.0}
 
     # ---- finding and changing at once
 

@@ -298,7 +298,7 @@ def path_below(members: Any) -> Optional[str]:
 
 def test_document(document: object) -> None:
     """TypeError if this is no document, or no query."""
-    if not isinstance(document, Mapping):
+    if type(document) is not dict and not isinstance(document, Mapping):
         raise TypeError(f"a document or a query is a dict, and not {type(document).__name__}")
 
 

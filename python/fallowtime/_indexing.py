@@ -72,6 +72,15 @@ class Indexing(Requests):
             for name in list(self._store._indexes.get(self._name, {})):
                 self.drop_index(name)
 
+    def _rename_indexes(self, name: str) -> None:
+        """Makes the same indexes of the collection of another name, and drops these."""
+        other = self._store[name]
+        known = self._store._indexes.setdefault(name, {})
+        for index in self._known_indexes():
+            other._ask("index", encode_text(index.path))
+            known.setdefault(index.name, index)
+        self.drop_indexes()
+
     def list_indexes(self, **options: Any) -> CommandCursor:
         """The indexes, one document each: none of a collection that has no document and no index."""
         test_options("list_indexes", options, OPTIONS_OF_INDEX)

@@ -12,8 +12,8 @@ from typing import Any, List, Optional
 from ._errors import Ended, refusal
 from ._program import Report, start
 
-# Reads JSON, as `json.loads` does.
-_read = json.JSONDecoder().decode
+# Reads JSON from a place on, and says where that ends.
+_scan = json.JSONDecoder().scan_once
 # What the program takes of a line, in bytes.
 LONGEST = 64 << 20
 # How much is written or read at a time, in bytes: what a pipe holds.
@@ -143,11 +143,12 @@ class Session:
 
     def _answer(self, line: bytes, patience: Optional[int]) -> Any:
         """Sends a line and returns the answer to it."""
-        self._test_outside()
-        self.test_open()
+        if self._is_inside or self._end is not None:
+            self._test_outside()
+            self.test_open()
         try:
             self._is_inside = True
-            text = self._exchange(line, patience)
+            received = self._exchange(line, patience)
         except Ended:
             raise
         except BaseException as error:
@@ -156,11 +157,14 @@ class Session:
             raise
         finally:
             self._is_inside = False
+        answer, text, end = None, "", 0
         try:
-            answer = _read(text.decode())
-        except ValueError:
-            answer = None
-        if not isinstance(answer, dict):
+            text = received.decode()
+            answer, end = _scan(text, 0)
+        except (ValueError, StopIteration):
+            pass
+        # (behind it is the end of the line)
+        if type(answer) is not dict or end != len(text) - 1:
             raise self._stop("the program answered what is no object of JSON")
         return answer
 

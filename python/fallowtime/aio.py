@@ -164,6 +164,7 @@ class AsyncIOMotorCollection(WithAbsent):
     drop_indexes = _awaited(Collection.drop_indexes)
     index_information = _awaited(Collection.index_information)
     drop = _awaited(Collection.drop)
+    rename = _awaited(Collection.rename)
     options = _awaited(Collection.options)
     export = _awaited(Collection.export)
     import_ = _awaited(Collection.import_)

@@ -584,7 +584,7 @@ class Absent(WithFolder):
         store = self.open()
         collection, cursor = store["c"], store["c"].find()
         store.close()
-        for name in "rename", "watch", "find_raw_batches", "create_search_index":
+        for name in "watch", "find_raw_batches", "create_search_index":
             with self.assertRaisesRegex(NotImplementedError, name):
                 getattr(collection, name)({}, x=1)
         for name in "where", "count", "collation", "max_time_ms", "min":

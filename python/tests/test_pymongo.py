@@ -227,6 +227,20 @@ class Several(WithOrders):
         self.orders.drop()
         self.store.drop_collection(self.orders)
 
+    def test_rename(self):
+        self.orders.create_index("x")
+        before = list(self.orders.find())
+        self.assertEqual(self.orders.rename("moved"), {"ok": 1.0})
+        moved = self.store["moved"]
+        self.assertEqual((list(moved.find()), list(moved.index_information())), (before, ["_id_", "x_1"]))
+        self.assertEqual((self.ids(), self.orders.index_information()), ([], {}))
+        self.assertEqual(moved.count_documents({"x": before[0]["x"]}), 1)
+        self.assert_fails(26, self.orders.rename, "new")
+        self.assert_fails(48, moved.rename, "moved")
+        self.assertRaises(NotImplementedError, moved.rename, "new", dropTarget=True)
+        self.assertRaises(TypeError, moved.rename, 1)
+        self.assertEqual(list(moved.find()), before)
+
 
 class FindingAndChanging(WithOrders):
     def test_delete(self):

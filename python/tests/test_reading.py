@@ -64,7 +64,7 @@ class OnlyRead(WithFolder):
         for call in [
             lambda: plain.insert_one({}), lambda: plain.insert_many([{}]), lambda: plain.delete_many({"none": 1}),
             lambda: plain.update_one({"none": 1}, {"$set": {"x": 1}}), lambda: plain.replace_one({"none": 1}, {}),
-            lambda: plain.find_one_and_update({"none": 1}, {"$set": {"x": 1}}), lambda: plain.drop(),
+            lambda: plain.find_one_and_update({"none": 1}, {"$set": {"x": 1}}), lambda: plain.drop(), lambda: plain.rename("new"),
             lambda: plain.find_one_and_delete({"none": 1}), lambda: plain.create_index("x"),
             lambda: plain.bulk_write([DeleteOne({"none": 1})]), lambda: plain.bulk_write([InsertOne({})]),
             lambda: plain.import_(os.devnull), lambda: self.reader.drop_collection("plain"),

@@ -20,10 +20,10 @@ use Rattle.fallowtime_commands.specs.declared.refusal.Refusal.{Refusal}
 use Rattle.fallowtime_requests.specs.declared.request.Request.{Request}
 
 module _ {D : Type 0} {g : Ghosts D} where
-  -- such a way, of whatever a crash leaves now, in the words of fallowtime_commands; there are no lists of changes
+  -- such a way, of whatever a crash leaves now, in the words of fallowtime_commands; there are no lists of changes and no transfers
   abbrev pub LeavesIn : Writer D g → Writer D g → List ℕ → model.Reply → Ways → Type 0
   LeavesIn old new n r P =
-      Along old new (λ first a left. P (λ b call. IsLeftBy new (model.on n call) r first b left) (λ b xs. ⊥) (HoldState first (size_of new) left (lists_of a)) a)
+      Along old new (λ first a left. P (λ b call. IsLeftBy new (model.on n call) r first b left) (λ b xs. ⊥) (λ t. ⊥) (HoldState first (size_of new) left (lists_of a)) a)
 
   -- no more than before
   abbrev pub Unmoved : Writer D g → Writer D g → Type 0

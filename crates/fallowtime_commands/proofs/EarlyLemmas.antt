@@ -53,6 +53,7 @@ module _ (n : List ℕ) (s : State) (k : ErrorKind) where
   stays (request.Count g) (is, why) = absurd cc
   stays (request.Distinct path g counts) (is, why) = absurd cc
   stays (request.Import stream) (is, why) = absurd cc
+  stays (request.Transfer how) (is, why) = absurd cc
   stays (request.Index path) (is, why) = absurd cc
   stays (request.DropIndex path) (is, why) = absurd cc
   stays request.Collections (is, why) = absurd cc
@@ -75,6 +76,7 @@ module _ (n : List ℕ) (s : State) (k : ErrorKind) where
   leaves (request.Count g) (is, why) = absurd cc
   leaves (request.Distinct path g counts) (is, why) = absurd cc
   leaves (request.Import stream) (is, why) = absurd cc
+  leaves (request.Transfer how) (is, why) = absurd cc
   leaves (request.Index path) (is, why) = absurd cc
   leaves (request.DropIndex path) (is, why) = absurd cc
   leaves request.Collections (is, why) = absurd cc

@@ -14,6 +14,8 @@ mod LookLemmas
 mod MeantLemmas
 pub mod OutcomeLemmas
 mod TotalLemmas
+mod TransferLemmas
+mod DraftLemmas
 mod UpsertLemmas
 mod WantLemmas
 pub mod CrashLemmas

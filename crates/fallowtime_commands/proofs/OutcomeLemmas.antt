@@ -75,6 +75,7 @@ module _ (f : Form) (text : List ℕ) where
   of_id (request.Count q) v h is = absurd is
   of_id (request.Distinct path q counts) v h is = absurd is
   of_id (request.Import stream) v h is = absurd is
+  of_id (request.Transfer how) v h is = absurd is
   of_id (request.Index path) v h is = absurd cc
   of_id (request.DropIndex path) v h is = absurd cc
   of_id request.Collections v h is = absurd is
@@ -99,6 +100,7 @@ module _ (f : Form) (text : List ℕ) where
   of_upserted (request.Count q) v h is = absurd is
   of_upserted (request.Distinct path q counts) v h is = absurd is
   of_upserted (request.Import stream) v h is = absurd is
+  of_upserted (request.Transfer how) v h is = absurd is
   of_upserted (request.Index path) v h is = absurd cc
   of_upserted (request.DropIndex path) v h is = absurd cc
   of_upserted request.Collections v h is = absurd is

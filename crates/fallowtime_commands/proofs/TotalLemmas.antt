@@ -67,7 +67,7 @@ refused_so mid after a e same shown (x, other, is) = rw (same, is) (denied mid c
 
 -- ---- one more
 
-keeps_all : (ds kept : Documents) → Keeps (all_of no_asked) ds kept → kept ≡ ds
+pub keeps_all : (ds kept : Documents) → Keeps (all_of no_asked) ds kept → kept ≡ ds
 keeps_all [] kept is = is
 keeps_all (d ∷ ds) kept (inl (answers, (rest, is, more))) = is ∙ ap (λ l. d ∷ l) (keeps_all ds rest more)
 keeps_all (d ∷ ds) kept (inr (other, more)) = absurd (other tt)

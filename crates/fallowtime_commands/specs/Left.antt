@@ -24,6 +24,8 @@ use Rattle.fallowtime_commands.specs.Changing.{AreEdits, AreMeant, Becomes, Rene
 use Rattle.fallowtime_commands.specs.Finding.{IsFirstFound}
 use Rattle.fallowtime_commands.specs.declared.answer.Answer.{Answer}
 use Rattle.fallowtime_commands.specs.Setting.{Gets}
+use Rattle.fallowtime_commands.specs.Transferring.{IsReady, transferred}
+use Rattle.fallowtime_requests.specs.declared.request.Transfer.{Transfer}
 use Rattle.fallowtime_commands.specs.Storing.{FindsNone, HasReplaced, IsStopped}
 use Rattle.fallowtime_requests.specs.declared.request.Request.{Request}
 use Rattle.fallowtime_requests.specs.declared.request.Wanted.{Wanted}
@@ -33,10 +35,10 @@ use Rattle.fallowtime_requests.specs.declared.request.Work.{Work}
 use Rattle.fallowtime_requests.specs.declared.request.Request.TheVariants as request
 
 -- What holds of what is left, by the table a that the rows showed: `From b call`, that it is what the store's call leaves
--- of a table b; `Done b xs`, that it holds the state at the end of all these changes of b; and `Was`, that it could be
--- left before.
+-- of a table b; `Done b xs`, that it holds the state at the end of all these changes of b; `Has t`, that it holds the
+-- state t; and `Was`, that it could be left before.
 abbrev pub Ways : Type 1
-Ways = (DocumentTable → model.Call → Type 0) → (DocumentTable → List Edit → Type 0) → Type 0 → DocumentTable → Type 0
+Ways = (DocumentTable → model.Call → Type 0) → (DocumentTable → List Edit → Type 0) → (model.State → Type 0) → Type 0 → DocumentTable → Type 0
 
 -- what an insertion leaves, if there is one
 abbrev pub LeftByOne : (model.Call → Type 0) → Otherwise → Type 0
@@ -51,7 +53,7 @@ LeftByUpsert From Done n w u (d ∷ ds) = (xs : List Edit) × AreEdits n w (d �
 -- Of a request on the collection n with this reply: `Same`, no more than what could be left before, or `Of` such a way.
 module _ (Same : Type 0) (Of : Ways → Type 0) (n : List ℕ) (r : model.Reply) where
   abbrev pub OfCall : model.Call → Type 0
-  OfCall call = Of (λ From Done Was a. From a call)
+  OfCall call = Of (λ From Done Has Was a. From a call)
 
   -- an insertion or a replacement, by what the bytes read as
   abbrev pub OfStored : (Reading → model.Call) → Members → Type 0
@@ -62,39 +64,43 @@ module _ (Same : Type 0) (Of : Ways → Type 0) (n : List ℕ) (r : model.Reply)
   OfPut e =
       (IsStopped n e r × Same)
       ⊎ ((HasReplaced r × ((x : Reading) → ReadsBytes (encode e) x → OfCall (model.replace model.in_bytes x)))
-      ⊎ Of (λ From Done Was a. (b : DocumentTable) × FindsNone n (encode e) a b × ((y : Reading) × ReadsBytes (encode e) y × From b (model.insert model.in_bytes y))))
+      ⊎ Of (λ From Done Has Was a. (b : DocumentTable) × FindsNone n (encode e) a b × ((y : Reading) × ReadsBytes (encode e) y × From b (model.insert model.in_bytes y))))
 
   -- a value that is set: no more than before, or what the replacement leaves
   abbrev pub OfSet : Value → List ℕ → Value → Type 0
-  OfSet id k v = Of (λ From Done Was a.
+  OfSet id k v = Of (λ From Done Has Was a.
       ((model.IsFreeKey k → ⊥) × From a (model.set id k (Some v)))
       ⊎ ((IsRefusal r × Was)
       ⊎ ((d : Members) × (b : DocumentTable) × Gets n id a d b × ((x : Reading) × ReadsBytes (encode (put k v d)) x × From b (model.replace model.in_bytes x)))))
 
   -- an update of the document with an id: no more than before, after a refusal; or the state at the end of its change
   abbrev pub OfAlter : Value → List Plan → Type 0
-  OfAlter id plans = Of (λ From Done Was a.
+  OfAlter id plans = Of (λ From Done Has Was a.
       (IsRefusal r × Was) ⊎ ((d : Members) × (b : DocumentTable) × (change : Option Edit) × Gets n id a d b × Renews n (Updates plans d) d change × Done b (listed change)))
 
   -- a change by query: no more than before, and never if it was accepted; or the state at the end of all changes
   abbrev pub OfChange : Form → Work → Bool → Type 0
-  OfChange form w many = Of (λ From Done Was a.
+  OfChange form w many = Of (λ From Done Has Was a.
       (q : Asked) → Reads form q
       → (IsRefusal r × Was) ⊎ ((ds : Documents) × (xs : List Edit) × AreMeant n q many a ds × AreEdits n w ds xs × Done a xs))
 
   -- a change of the first document that is found: no more than before, and if it was accepted only if none was found; or
   -- the state at the end of the change
   abbrev pub OfFound : Form → Wanted → Work → Type 0
-  OfFound form w k = Of (λ From Done Was a.
+  OfFound form w k = Of (λ From Done Has Was a.
       (q : Asked) → Reads form q
       → ((IsRefusal r ⊎ IsFirstFound n q w.arrangement a []) × Was)
       ⊎ ((d : Members) × (change : Option Edit) × IsFirstFound n q w.arrangement a (d ∷ []) × Becomes n k d change × Done a (listed change)))
 
   -- the same with a document that is put in if none answers
   abbrev pub OfUpsert : Form → Work → Bool → Otherwise → Type 0
-  OfUpsert form w many u = Of (λ From Done Was a.
+  OfUpsert form w many u = Of (λ From Done Has Was a.
       (q : Asked) → Reads form q
       → (IsRefusal r × Was) ⊎ ((ds : Documents) × AreMeant n q many a ds × LeftByUpsert (From a) (Done a) n w u ds))
+
+  -- a whole collection: no more than before, after a refusal; or the state afterwards, if its documents could go
+  abbrev pub OfTransfer : Transfer → Type 0
+  OfTransfer how = Of (λ From Done Has Was a. (IsRefusal r × Was) ⊎ (IsReady how n (state_of a) × Has (transferred how n (state_of a))))
 
   -- a question or an index leaves no more than before
   abbrev pub OfRequest : Request → Type 0
@@ -109,12 +115,13 @@ module _ (Same : Type 0) (Of : Ways → Type 0) (n : List ℕ) (r : model.Reply)
   OfRequest (request.Upsert q w many u) = OfUpsert (form_of q) w many u
   OfRequest (request.Remove id) = OfCall (model.remove (view id))
   OfRequest (request.Import stream) = (ds : Documents) (stop : Option ErrorKind) → ReadsStream stream.items ds stop → OfCall (model.import ds stop)
+  OfRequest (request.Transfer how) = OfTransfer how
   OfRequest _ = Same
 
 -- ---- of one database, which a crash may leave now; before it they were those of Before, beside the other tables of the first
 
 abbrev pub LeftIn : Database → (Trees → Type 0) → List ℕ → DocumentTable → model.Reply → Trees → Ways → Type 0
-LeftIn first Before n a r db P = P (λ b call. LeftBy (Holds first) Before (state_of b) (model.on n call) r db) (λ b xs. HoldsDone first b xs db) (Before db) a
+LeftIn first Before n a r db P = P (λ b call. LeftBy (Holds first) Before (state_of b) (model.on n call) r db) (λ b xs. HoldsDone first b xs db) (λ t. Holds first db t) (Before db) a
 
 abbrev pub LeftByRequest : Database → (Trees → Type 0) → List ℕ → DocumentTable → Request → model.Reply → Trees → Type 0
 LeftByRequest first Before n a q r db = OfRequest (Before db) (LeftIn first Before n a r db) n r q
@@ -144,6 +151,9 @@ LeavesChange n form w many r old new = OfChange (Unmoved old new) (LeavesIn old 
 
 abbrev pub LeavesFound : List ℕ → Form → Wanted → Work → model.Reply → State → State → Type 0
 LeavesFound n form w k r old new = OfFound (Unmoved old new) (LeavesIn old new n r) n r form w k
+
+abbrev pub LeavesTransfer : List ℕ → Transfer → model.Reply → State → State → Type 0
+LeavesTransfer n how r old new = OfTransfer (Unmoved old new) (LeavesIn old new n r) n r how
 
 -- if no document answers: what an insertion leaves, or no more than before, after a refusal
 abbrev pub LeavesEnd : List ℕ → Otherwise → model.Reply → State → State → Type 0

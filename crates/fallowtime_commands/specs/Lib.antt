@@ -9,4 +9,5 @@ pub mod Printing
 pub mod Reports
 pub mod Setting
 pub mod Storing
+pub mod Transferring
 pub mod Upserting

@@ -27,6 +27,7 @@ use Rattle.fallowtime_commands.specs.Finding.{FindsAndChanges, IsFound}
 use Rattle.fallowtime_commands.specs.Setting.{Sets}
 use Rattle.fallowtime_commands.specs.Storing.{Puts, Stores}
 use Rattle.fallowtime_commands.specs.Changing.{ChangesFound}
+use Rattle.fallowtime_commands.specs.Transferring.{Transfers}
 use Rattle.fallowtime_commands.specs.Upserting.{UpsertsFound}
 use Rattle.fallowtime_requests.specs.declared.request.Otherwise.{Otherwise}
 use Rattle.fallowtime_requests.specs.declared.request.Otherwise.TheVariants as otherwise
@@ -118,6 +119,7 @@ IsAnswerTo (request.FindAndChange q w k) a = IsFound k a
 IsAnswerTo (request.Count q) a = IsNumber a
 IsAnswerTo (request.Distinct path q counts) a = AreValues counts a
 IsAnswerTo (request.Import stream) a = IsNumber a
+IsAnswerTo (request.Transfer how) a = IsNumber a
 IsAnswerTo (request.Index path) a = a ≡ answer.Nothing
 IsAnswerTo (request.DropIndex path) a = a ≡ answer.Nothing
 IsAnswerTo request.Collections a = AreNames a
@@ -162,6 +164,7 @@ Performs n (request.FindAndChange q w k) o old new = FindsAndChanges n (form_of 
 Performs n (request.Count q) o old new = Counts n (form_of q) (reply_of o) old new
 Performs n (request.Distinct path q counts) o old new = Differs n (form_of q) (path_of path.items) counts o old new
 Performs n (request.Import stream) o old new = DoesMany n (ReadsStream stream.items) (reply_of o) old new
+Performs n (request.Transfer how) o old new = Transfers n how o old new
 Performs n (request.Index path) o old new = Indexes n (reply_of o) old new
 Performs n (request.DropIndex path) o old new = Indexes n (reply_of o) old new
 Performs n request.Collections o old new = Does model.collections (reply_of o) old new

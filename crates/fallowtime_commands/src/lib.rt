@@ -20,6 +20,7 @@ mod replacing;
 mod setting;
 mod storing;
 mod total;
+mod transferring;
 mod upserting;
 mod wanting;
 

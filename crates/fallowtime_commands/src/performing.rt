@@ -15,6 +15,7 @@ use crate::finding::find_and_change;
 use crate::setting::set;
 use crate::storing::{insert, put, replace};
 use crate::total::total;
+use crate::transferring::transfer;
 use crate::upserting::upsert;
 use crate::wanting::find_wanted;
 use bson_store::{Bson, Store, StoreError};
@@ -29,8 +30,8 @@ use std::mem::replace as take;
 /// Refused as that call is: for `Insert` and `Replace`, in this order, by BadName; TooDeep, Nul, NoId and TooLong; and
 /// then by DuplicateId and Places, or by NotFound; `Put` by neither DuplicateId nor NotFound; `Set` as `set`, whose
 /// value keeps the order of its keys; `Alter` as `alter`, `Change` as `change`, `Upsert` as `upsert`, and `FindAndChange` as
-/// `find_and_change`; `Import` as `import_bytes`; `Index` and `DropIndex` as
-/// `index` and `drop_index`.
+/// `find_and_change`; `Import` as `import_bytes`; `Transfer` as `transfer`; `Index` and
+/// `DropIndex` as `index` and `drop_index`.
 pub fn perform<S: Alter + Drop>(
     alloc: Global,
     store: &mut Store<S>,
@@ -73,6 +74,7 @@ pub fn perform<S: Alter + Drop>(
         }
         Request::Count(question) => number(count(alloc, store, name, question)),
         Request::Import(stream) => number(store.import_bytes(name, stream.as_slice())),
+        Request::Transfer(how) => transfer(alloc, store, name, *how),
         Request::Index(path) => {
             let path = take(path, Vec::new(alloc));
             nothing(store.index(name, path))

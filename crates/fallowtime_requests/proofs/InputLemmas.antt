@@ -8,7 +8,7 @@ use Rattle.json.specs.declared.value.Value.{Value as Tree}
 use Rattle.fallowtime_texts.specs.declared.made.IdMaker.{IdMaker}
 use Rattle.fallowtime_words.specs.Commands.{arguments}
 use Rattle.fallowtime_words.specs.declared.command.Command.{Command}
-use Rattle.fallowtime_words.specs.declared.command.Command.TheVariants.{Insert, Put, Replace, Get, Set, Unset, Update, ReplaceOne, Delete, FindAndUpdate, FindAndReplace, FindAndDelete, Remove, Find, Count, Distinct, Import, Export, Collections, Check, Backup, Index, DropIndex, Version, ImportAll, ExportAll, Edit}
+use Rattle.fallowtime_words.specs.declared.command.Command.TheVariants.{Insert, Put, Replace, Get, Set, Unset, Update, ReplaceOne, Delete, FindAndUpdate, FindAndReplace, FindAndDelete, Remove, Find, Count, Distinct, Import, Export, Drop, Rename, Copy, Collections, Check, Backup, Index, DropIndex, Version, ImportAll, ExportAll, Edit}
 use Rattle.fallowtime_words.specs.declared.table.Argument.{Argument}
 use Rattle.fallowtime_requests.specs.Inputs.{Given, seen, texts, tree, trees, word}
 use Rattle.fallowtime_requests.specs.Reading.{AsMany, Reads, beyond}
@@ -112,6 +112,9 @@ few Count = omega arith
 few Distinct = omega arith
 few Import = omega arith
 few Export = omega arith
+few Drop = omega arith
+few Rename = omega arith
+few Copy = omega arith
 few Collections = omega arith
 few Check = omega arith
 few Backup = omega arith
@@ -152,6 +155,9 @@ too_many m Count gs more = inl (not_as_many Count gs more, refl)
 too_many m Distinct gs more = inl (not_as_many Distinct gs more, refl)
 too_many m Import gs more = inl (not_as_many Import gs more, refl)
 too_many m Export gs more = inl (not_as_many Export gs more, refl)
+too_many m Drop gs more = inl (not_as_many Drop gs more, refl)
+too_many m Rename gs more = inl (not_as_many Rename gs more, refl)
+too_many m Copy gs more = inl (not_as_many Copy gs more, refl)
 too_many m Collections gs more = inl (not_as_many Collections gs more, refl)
 too_many m Check gs more = inl (not_as_many Check gs more, refl)
 too_many m Index gs more = inl (not_as_many Index gs more, refl)

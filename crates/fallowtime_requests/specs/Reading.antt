@@ -92,6 +92,7 @@ Stops m argument.Update g s = StopsUpdate g s
 Stops m argument.Options g s = StopsOptions g s
 Stops m argument.Documents g s = StopsStream m g s
 Stops m argument.IndexPath g s = (s ≡ Memory) ⊎ StopsText unread.Path g s
+Stops m argument.NewName g s = StopsText unread.Collection g s
 Stops m argument.File g s = ⊥
 Stops m argument.Folder g s = ⊥
 
@@ -106,6 +107,7 @@ IsRead argument.Query g = (a : Asked) × IsAsked g a
 IsRead argument.Selection g = (a : Asked) × IsAsked g a
 IsRead argument.Update g = (plans : List Plan) × IsUpdate g plans
 IsRead argument.Options g = (many : Bool) × (many_of g ≡ Some many)
+IsRead argument.NewName g = (t : List ℕ) × IsText g t
 IsRead argument.IndexPath g = (path : List (List ℕ)) × IsPath g path
 IsRead _ g = ⊥
 

@@ -26,6 +26,7 @@ use Rattle.fallowtime_requests.specs.declared.reading.Layout.{Layout}
 use Rattle.fallowtime_requests.specs.declared.reading.Layout.TheVariants as layout
 use Rattle.fallowtime_requests.specs.declared.request.Request.{Request}
 use Rattle.fallowtime_requests.specs.declared.request.Request.TheVariants as request
+use Rattle.fallowtime_requests.specs.declared.request.Transfer.TheVariants as transfer
 use Rattle.fallowtime_requests.specs.declared.request.Wanted.{Wanted}
 use Rattle.fallowtime_requests.specs.declared.request.Work.TheVariants as work
 
@@ -130,6 +131,11 @@ abbrev pub NameAndPath : List Given → List ℕ → List (List ℕ) → Type 0
 NameAndPath (c ∷ p ∷ []) name path = IsText c name × IsPath p path
 NameAndPath _ name path = ⊥
 
+-- a collection, and the name of another
+abbrev pub NameAndNew : List Given → List ℕ → List ℕ → Type 0
+NameAndNew (c ∷ t ∷ []) name new = IsText c name × IsText t new
+NameAndNew _ name new = ⊥
+
 -- all documents, as they come, each whole
 abbrev pub WantsAll : Wanted → Type 0
 WantsAll w = (keys_of w.arrangement.keys.items ≡ []) × (w.arrangement.skip ≡ 0) × (w.arrangement.limit ≡ None) × (w.fields ≡ None) × (w.after ≡ false)
@@ -157,6 +163,9 @@ Asks m n command.Count gs name (request.Count q) l = NameAndQuery gs name q × (
 Asks m n command.Distinct gs name (request.Distinct path q counts) l = NamePathAndQuery gs name (path_of path.items) q × (counts ≡ false) × (n ≡ m) × (l ≡ layout.Each)
 Asks m n command.Import gs name (request.Import stream) l = NameAndStream m n gs name stream.items × (l ≡ layout.Each)
 Asks m n command.Export gs name (request.Find q w) l = NameAlone gs name × StandsFor q everything × WantsAll w × (n ≡ m) × (l ≡ layout.Stream)
+Asks m n command.Drop gs name (request.Transfer transfer.Drop) l = NameAlone gs name × (n ≡ m) × (l ≡ layout.Each)
+Asks m n command.Rename gs name (request.Transfer (transfer.Rename new)) l = NameAndNew gs name new.now × (n ≡ m) × (l ≡ layout.Each)
+Asks m n command.Copy gs name (request.Transfer (transfer.Copy new)) l = NameAndNew gs name new.now × (n ≡ m) × (l ≡ layout.Each)
 Asks m n command.Index gs name (request.Index path) l = NameAndPath gs name (path_of path.items) × (n ≡ m) × (l ≡ layout.Each)
 Asks m n command.DropIndex gs name (request.DropIndex path) l = NameAndPath gs name (path_of path.items) × (n ≡ m) × (l ≡ layout.Each)
 Asks m n command.Collections gs name request.Collections l = (gs ≡ []) × (name ≡ []) × (n ≡ m) × (l ≡ layout.Each)

@@ -6,7 +6,7 @@ ghost use Rattle.bson_model.specs.View.{content, view};
 ghost use Rattle.json.specs.Value.{items_view};
 ghost use Rattle.fallowtime_requests.specs.Inputs.{seen, texts, trees};
 ghost use Rattle.fallowtime_requests.specs.Reading.{IsUnread, KeepsMaker, Reads};
-ghost use Rattle.fallowtime_requests.specs.Requests.{NameAlone, NameAndDocument, NameAndId, NameAndPath, NameAndQuery, NameAndSelection, NameAndStream, NameIdAndKey, NameIdKeyAndValue, NamePathAndQuery, NameQueryAndDocument, NameQueryAndMany, NameQueryAndUpdate, NameQueryUpdateAndMany, everything};
+ghost use Rattle.fallowtime_requests.specs.Requests.{NameAlone, NameAndDocument, NameAndId, NameAndQuery, NameAndSelection, NameAndStream, NameIdAndKey, NameIdKeyAndValue, NamePathAndQuery, NameQueryAndDocument, NameQueryAndMany, NameQueryAndUpdate, NameQueryUpdateAndMany, everything};
 ghost use Rattle.fallowtime_texts.specs.declared.made.IdMaker.{IdMaker as Maker};
 ghost use Rattle.fallowtime_words.specs.declared.command.Command.TheVariants as commands;
 ghost use Rattle.fallowtime_words.specs.declared.table.Argument.TheVariants as argument;
@@ -16,12 +16,14 @@ ghost use Rattle.store_question_read.specs.Outcome.{Asks as StandsFor};
 ghost use Rattle.store_update_read.specs.Outcome.{plans_of};
 
 use crate::arranging::all_of;
+use crate::indexing::{drop_index, index};
 use crate::input::{Input, of_value, of_word};
 use crate::options::many_of;
 use crate::parts::{collection_of, document_of, id_of, key_of, path_of, query_in, value_of};
 use crate::request::{Request, Work};
 use crate::stop::Stop;
 use crate::stream::stream_in;
+use crate::transferring::{copy, drop_collection, rename};
 use crate::unread::{Unread, beyond};
 use crate::updates::parts_of;
 use bson_json_read::Scratch;
@@ -53,7 +55,7 @@ pub struct Question<'w> {
 }
 
 /// A question to which documents are returned each by itself.
-fn plain<'w>(collection: &'w str, request: Request<'w>) -> Question<'w>
+pub(crate) fn plain<'w>(collection: &'w str, request: Request<'w>) -> Question<'w>
     ensures { (result.collection ≡ collection.entry) × (result.request ≡ request.entry)
         × (result.layout ≡ Layout.Each) }
 {
@@ -65,7 +67,7 @@ fn plain<'w>(collection: &'w str, request: Request<'w>) -> Question<'w>
 }
 
 /// The name of a collection.
-fn name_of<'w>(arguments: &[Input<'_, 'w>]) -> Result<&'w str, Stop>
+pub(crate) fn name_of<'w>(arguments: &[Input<'_, 'w>]) -> Result<&'w str, Stop>
     ensures { (m : Maker) → MatchResult result (λ t. NameAlone (map seen arguments.now) t.now)
         (IsUnread m (argument.Collection ∷ []) (map seen arguments.now)) }
 {
@@ -108,21 +110,6 @@ fn with_own_id<'w>(
         [name, id] => {
             let name = collection_of(*name)?;
             Ok((name, id_of(alloc, *id, scratch)?))
-        }
-        _ => Err(Stop::Words(Unread::Arguments)),
-    }
-}
-
-/// A collection, and a path.
-fn with_path<'w>(alloc: Global, arguments: &[Input<'_, 'w>]) -> Result<(&'w str, Vec<String>), Stop>
-    ensures { (m : Maker) → MatchResult result
-        (λ p. NameAndPath (map seen arguments.now) p.0.now (path_view p.1.items))
-        (IsUnread m (argument.Collection ∷ argument.IndexPath ∷ []) (map seen arguments.now)) }
-{
-    match arguments {
-        [name, path] => {
-            let name = collection_of(*name)?;
-            Ok((name, path_of(alloc, *path)?))
         }
         _ => Err(Stop::Words(Unread::Arguments)),
     }
@@ -559,20 +546,6 @@ fn export<'w>(alloc: Global, arguments: &[Input<'_, 'w>]) -> Result<Question<'w>
     })
 }
 
-fn index<'w>(alloc: Global, arguments: &[Input<'_, 'w>]) -> Result<Question<'w>, Stop>
-    ensures { (m : Maker) → Reads m m commands.Index (map seen arguments.now) result }
-{
-    let (collection, path) = with_path(alloc, arguments)?;
-    Ok(plain(collection, Request::Index(path)))
-}
-
-fn drop_index<'w>(alloc: Global, arguments: &[Input<'_, 'w>]) -> Result<Question<'w>, Stop>
-    ensures { (m : Maker) → Reads m m commands.DropIndex (map seen arguments.now) result }
-{
-    let (collection, path) = with_path(alloc, arguments)?;
-    Ok(plain(collection, Request::DropIndex(path)))
-}
-
 fn collections<'w>(arguments: &[Input<'_, 'w>]) -> Result<Question<'w>, Stop>
     ensures { (m : Maker) → Reads m m commands.Collections (map seen arguments.now) result }
 {
@@ -621,6 +594,9 @@ fn question_of<'w>(
         Command::Distinct => distinct(alloc, arguments, scratch),
         Command::Import => import(alloc, arguments, maker),
         Command::Export => export(alloc, arguments),
+        Command::Drop => drop_collection(arguments),
+        Command::Rename => rename(arguments),
+        Command::Copy => copy(arguments),
         Command::Index => index(alloc, arguments),
         Command::DropIndex => drop_index(alloc, arguments),
         Command::Collections => collections(arguments),

@@ -26,6 +26,17 @@ pub enum Otherwise {
     Refuse(UpdateError),
 }
 
+/// What becomes of a whole collection.
+#[derive(Clone, Copy, Debug, Drop)]
+pub enum Transfer<'w> {
+    /// All its documents are removed.
+    Drop,
+    /// Its documents go to the collection of this name.
+    Rename(&'w str),
+    /// Its documents are in the collection of this name, too.
+    Copy(&'w str),
+}
+
 /// What is returned of the documents that are found.
 #[derive(Drop)]
 pub struct Wanted {
@@ -70,6 +81,8 @@ pub enum Request<'w> {
     Distinct(Vec<String>, Question, bool),
     /// To put in the documents of a stream of BSON, all or none.
     Import(Vec<u8>),
+    /// To remove all documents, to give them to another collection, or to copy them there.
+    Transfer(Transfer<'w>),
     /// To make an index on a path.
     Index(Vec<String>),
     /// To drop the index on a path.

@@ -50,6 +50,12 @@ pub enum Command {
     Import,
     /// `export COLL`: writes all documents as BSON.
     Export,
+    /// `drop COLL`: removes all documents of a collection, and prints how many.
+    Drop,
+    /// `rename COLL NEW`: gives a collection another name, and prints how many documents it has.
+    Rename,
+    /// `copy COLL NEW`: puts the documents of a collection into a new one, and prints how many.
+    Copy,
     /// `collections`: prints the names of the collections.
     Collections,
     /// `check`: tests all that the file holds, and prints how many documents that is.

@@ -27,6 +27,8 @@ pub enum Argument {
     Documents,
     /// PATH of an index or of values: keys with dots between them.
     IndexPath,
+    /// NEW: the name of a collection that has no document yet.
+    NewName,
     /// PATH: a file that isn't there.
     File,
     /// DIR: the folder of a dump.
@@ -164,7 +166,7 @@ const LITERAL: Allowed = Allowed {
 };
 
 /// The commands, in the order of the help.
-pub const TABLE: [Signature; 27] = [
+pub const TABLE: [Signature; 30] = [
     Signature {
         command: Command::Insert,
         name: "insert",
@@ -344,6 +346,33 @@ pub const TABLE: [Signature; 27] = [
         effect: Effect::Reads,
         place: Place::Both,
         about: "writes all documents as BSON",
+    },
+    Signature {
+        command: Command::Drop,
+        name: "drop",
+        arguments: &[Argument::Collection],
+        options: NO_OPTION,
+        effect: Effect::Changes,
+        place: Place::Both,
+        about: "removes a collection with all its documents",
+    },
+    Signature {
+        command: Command::Rename,
+        name: "rename",
+        arguments: &[Argument::Collection, Argument::NewName],
+        options: NO_OPTION,
+        effect: Effect::Changes,
+        place: Place::Both,
+        about: "gives a collection another name",
+    },
+    Signature {
+        command: Command::Copy,
+        name: "copy",
+        arguments: &[Argument::Collection, Argument::NewName],
+        options: NO_OPTION,
+        effect: Effect::Changes,
+        place: Place::Both,
+        about: "puts all documents into a new collection, too",
     },
     Signature {
         command: Command::Collections,

@@ -85,6 +85,12 @@ returns-in-Import-clause-moves g c = rw (c.in-Import.is, c.number-in-Import.ensu
 pub returns-in-Import-clause-crash : goal.returns-in-Import-clause-crash
 returns-in-Import-clause-crash g c = rw (c.in-Import.is, c.number-in-Import.ensures.reply) (rw c.as_slice-in-Import.ensures.value at c.import_bytes.ensures.crash)
 
+pub returns-in-Transfer-clause-moves : goal.returns-in-Transfer-clause-moves
+returns-in-Transfer-clause-moves g c = rw c.in-Transfer.is c.transfer.ensures.moves
+
+pub returns-in-Transfer-clause-crash : goal.returns-in-Transfer-clause-crash
+returns-in-Transfer-clause-crash g c = rw c.in-Transfer.is c.transfer.ensures.crash
+
 pub returns-in-Index-clause-moves : goal.returns-in-Index-clause-moves
 returns-in-Index-clause-moves g c =
     rw (c.in-Index.is, c.nothing-in-Index.ensures.reply) (indexed c.args.name.now (store_state g.S.Store c.args.store.now) (store_state g.S.Store c.index.new.self) c.index.result c.index.ensures.moves)

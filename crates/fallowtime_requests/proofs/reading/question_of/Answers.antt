@@ -132,3 +132,21 @@ returns-in-Check-clause-asked c = by_command c.args.maker.now c.args.command com
 
 pub returns-in-Check-clause-maker : goal.returns-in-Check-clause-maker
 returns-in-Check-clause-maker c = λ other. stays c.args.maker.now c.check.result
+
+pub returns-in-Drop-clause-asked : goal.returns-in-Drop-clause-asked
+returns-in-Drop-clause-asked c = by_command c.args.maker.now c.args.command command.Drop (map seen c.args.arguments.now) c.drop_collection.result c.in-Drop.is c.drop_collection.ensures
+
+pub returns-in-Drop-clause-maker : goal.returns-in-Drop-clause-maker
+returns-in-Drop-clause-maker c = λ other. stays c.args.maker.now c.drop_collection.result
+
+pub returns-in-Rename-clause-asked : goal.returns-in-Rename-clause-asked
+returns-in-Rename-clause-asked c = by_command c.args.maker.now c.args.command command.Rename (map seen c.args.arguments.now) c.rename.result c.in-Rename.is c.rename.ensures
+
+pub returns-in-Rename-clause-maker : goal.returns-in-Rename-clause-maker
+returns-in-Rename-clause-maker c = λ other. stays c.args.maker.now c.rename.result
+
+pub returns-in-Copy-clause-asked : goal.returns-in-Copy-clause-asked
+returns-in-Copy-clause-asked c = by_command c.args.maker.now c.args.command command.Copy (map seen c.args.arguments.now) c.copy.result c.in-Copy.is c.copy.ensures
+
+pub returns-in-Copy-clause-maker : goal.returns-in-Copy-clause-maker
+returns-in-Copy-clause-maker c = λ other. stays c.args.maker.now c.copy.result

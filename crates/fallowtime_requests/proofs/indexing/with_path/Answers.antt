@@ -2,8 +2,8 @@ use Rattle.std.proofs.Common.{arith, inl, refl}
 use Rattle.fallowtime_words.specs.declared.table.Argument.TheVariants.{Collection, IndexPath}
 use Rattle.fallowtime_requests.specs.Inputs.{seen}
 use Rattle.fallowtime_requests.proofs.CountLemmas.{not_two}
-use Rattle.fallowtime_requests.proofs.reading.with_path.Goals as goal
-use Rattle.fallowtime_requests.proofs.reading.with_path.Goals.{in_default-via-then-arguments-lt2, in_default-via-else-arguments-lt2+else-arguments-lt3}
+use Rattle.fallowtime_requests.proofs.indexing.with_path.Goals as goal
+use Rattle.fallowtime_requests.proofs.indexing.with_path.Goals.{in_default-via-then-arguments-lt2, in_default-via-else-arguments-lt2+else-arguments-lt3}
 
 pub returns-in_default : goal.returns-in_default
 returns-in_default c =

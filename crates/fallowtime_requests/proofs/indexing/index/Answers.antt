@@ -3,7 +3,7 @@ use Rattle.fallowtime_words.specs.declared.command.Command.TheVariants as comman
 use Rattle.fallowtime_requests.specs.Inputs.{seen}
 use Rattle.fallowtime_requests.specs.declared.request.Request.TheVariants as request
 use Rattle.fallowtime_requests.proofs.AskLemmas.{asks}
-use Rattle.fallowtime_requests.proofs.reading.drop_index.Goals as goal
+use Rattle.fallowtime_requests.proofs.indexing.index.Goals as goal
 
 pub returns : goal.returns
-returns c = λ m. asks m m command.DropIndex (map seen c.args.arguments.now) c.plain.result c.in_ok-collection.collection (request.DropIndex c.in_ok-collection.path) c.plain.ensures (c.in_ok-collection.ensures m, refl, refl)
+returns c = λ m. asks m m command.Index (map seen c.args.arguments.now) c.plain.result c.in_ok-collection.collection (request.Index c.in_ok-collection.path) c.plain.ensures (c.in_ok-collection.ensures m, refl, refl)
