@@ -165,6 +165,83 @@ def writes(program, folder):
     print("writes: lists of changes, what is refused of them, and that nothing is done then")
 
 
+# Batches.
+
+def batches(program, folder):
+    """What is found comes batch by batch, each document once, over any connection; what is let go doesn't come back."""
+    relay = Relay(program, store(folder))
+    line, other = relay.line(), relay.line()
+    line.ask({"insert": "items", "$db": "shop"}, documents=[{"_id": number} for number in range(250)])
+
+    def batch(answer, key="firstBatch"):
+        cursor = answer["cursor"]
+        holds("the collection", cursor["ns"], "shop.items")
+        return [one["_id"] for one in cursor[key]], cursor["id"]
+
+    def more(id, on=line, **options):
+        return on.ask({"getMore": bson.Int64(id), "collection": "items", "$db": "shop", **options})
+
+    first, id = batch(line.ask({**FIND, "batchSize": 100}))
+    line.ask({"delete": "items", "deletes": [{"q": {"_id": 240}, "limit": 1}], "$db": "shop"})
+    second, same = batch(more(id, other, batchSize=100), "nextBatch")
+    third, last = batch(more(id), "nextBatch")
+    holds("batches", (first + second + third, len(second), same, last), (list(range(250)), 100, id, 0))
+    holds("what has no more", more(id)["code"], 43)
+    for options, length, is_more in (({}, 101, True), ({"batchSize": 0}, 0, True), ({"batchSize": 249}, 249, False), ({"limit": 5, "batchSize": 3}, 3, True),
+                                     ({"batchSize": 9, "singleBatch": True}, 9, False)):
+        found, id = batch(line.ask({**FIND, **options}))
+        holds(f"a first batch with {options}", (len(found), id != 0), (length, is_more))
+    found, id = batch(line.ask({"aggregate": "items", "pipeline": [{"$sort": {"_id": -1}}, {"$match": {"_id": {"$lt": 50}}}], "cursor": {"batchSize": 20}, "$db": "shop"}))
+    holds("a pipeline", (found + batch(more(id), "nextBatch")[0]), list(range(49, -1, -1)))
+    ids = [batch(line.ask({**FIND, "batchSize": 1}))[1] for _ in range(2)]
+    killed = line.ask({"killCursors": "items", "cursors": [bson.Int64(ids[0]), bson.Int64(7)], "$db": "shop"})
+    holds("killed", (killed["cursorsKilled"], killed["cursorsNotFound"], more(ids[0])["code"], more(ids[1])["ok"]), ([ids[0]], [7], 43, 1.0))
+    holds("of another collection", line.ask({"getMore": bson.Int64(batch(line.ask({**FIND, "batchSize": 1}))[1]), "collection": "others", "$db": "shop"})["code"], 43)
+    ids = [batch(line.ask({**FIND, "limit": 2, "batchSize": 1}))[1] for _ in range(1100)]
+    holds("too many", (more(ids[0])["code"], batch(more(ids[-1]), "nextBatch")), (43, ([1], 0)))
+    for number in range(20):
+        line.ask({"insert": "long", "documents": [{"_id": number, "text": "x" * 1_000_000}], "$db": "shop"})
+    cursor = line.ask({"find": "long", "$db": "shop"})["cursor"]
+    holds("a batch that is full", (len(cursor["firstBatch"]), cursor["id"] != 0), (17, True))
+    holds("the end", relay.end(), 0)
+    print("batches: each document once, what is let go is told, and no more waits than may")
+
+
+def collections(program, folder):
+    """Collections and indexes that are made, databases, pipelines, and documents that are found or put in."""
+    relay = Relay(program, store(folder))
+    line = relay.line()
+
+    def ask(command):
+        answer = line.ask({**command, "$db": "shop"})
+        return answer["code"] if "code" in answer else answer
+
+    def index(**options):
+        return ask({"createIndexes": "items", "indexes": [{"key": {"a": 1}, "name": "a", **options}]})
+
+    def modify(**options):
+        answer = ask({"findAndModify": "items", **options})
+        return (answer["lastErrorObject"], answer["value"]) if isinstance(answer, dict) else answer
+
+    holds("a new one", ask({"create": "items"}), {"ok": 1.0})
+    holds("an upsert", modify(query={"_id": 1}, update={"$inc": {"a": 1}}, upsert=True), ({"n": 1, "updatedExisting": False, "upserted": 1}, None))
+    holds("one that is there", ask({"create": "items"}), 48)
+    holds("options", (ask({"create": "others", "capped": True}), ask({"create": "others", "nosuch": 1}), ask({"create": "others"})), (238, 40415, {"ok": 1.0}))
+    holds("indexes", (index()["ok"], index(unique=True), index(unique=False)["ok"], index(key={"a": "text"}), index(nosuch=1)), (1.0, 238, 1.0, 238, 40415))
+    holds("databases", ask({"listDatabases": 1, "nameOnly": True}), {"databases": [{"name": "shop"}], "ok": 1.0})
+    holds("one that is found", modify(query={"_id": 1}, update={"$inc": {"a": 1}}, upsert=True, new=True), ({"n": 1, "updatedExisting": True}, {"_id": 1, "a": 2}))
+    holds("one that is put in and shown", modify(query={"_id": 2}, update={"a": 9, "b": 3}, upsert=True, new=True, fields={"b": 1, "_id": 0}),
+          ({"n": 1, "updatedExisting": False, "upserted": 2}, {"b": 3}))
+    holds("refused upserts", (modify(query={"_id": 5}, remove=True, upsert=True), modify(query={"_id": 6, "a": "x"}, update={"$inc": {"a": 1}}, upsert=True)), (2, 14))
+    holds("pipelines", [ask({"aggregate": "items", "pipeline": stages, "cursor": {}}) for stages in
+                        ([{"$skip": 1}, {"$match": {}}], [{"$limit": 0}], [{"$limit": 1}, {"$skip": 1}], [{"$match": {}}, {"$match": {}}], [{"$sort": {}}], [{"$unwind": "$a"}])],
+          [238, 2, 238, 238, 2, 238])
+    found = ask({"aggregate": "items", "pipeline": [{"$match": {"_id": {"$gt": 0}}}, {"$sort": {"_id": -1}}, {"$skip": 1}, {"$limit": 1}, {"$project": {"a": 1, "_id": 0}}], "cursor": {}})
+    holds("a pipeline", found["cursor"]["firstBatch"], [{"a": 2}])
+    holds("the end", relay.end(), 0)
+    print("collections: made, their indexes, pipelines that find, and documents found or put in")
+
+
 # Bytes that are none of a driver's.
 
 def bases():
@@ -643,7 +720,7 @@ def rates(program, folder):
     print(f"rates: {told}" + ("" if is_at_rest else "; the machine has other work"))
 
 
-STEPS = [drivers, writes, hostile, hanging, names, limits, room, faults, kills, lost_clients, stops, sockets, addresses, systemd, rates]
+STEPS = [drivers, writes, batches, collections, hostile, hanging, names, limits, room, faults, kills, lost_clients, stops, sockets, addresses, systemd, rates]
 
 
 def main():

@@ -1,5 +1,5 @@
 -- What comes of a command.
-use Rattle.std.proofs.Common.{◌≡◌, inl, inr, pos, ℕ, Bool, false, true, List, [], ◌∷◌, map, Option, Some, None, Result, Ok, Err, IfOk, Vec, String, string_bytes, refl, ap, sym, ◌∙◌, subst}
+use Rattle.std.proofs.Common.{◌≡◌, inl, inr, ℤ, pos, ℕ, Bool, false, true, List, [], ◌∷◌, map, Option, Some, None, Result, Ok, Err, IfOk, Vec, String, string_bytes, refl, ap, sym, ◌∙◌, subst}
 use Rattle.std.specs.declared.alloc.AllocError.{AllocError}
 use Rattle.std.specs.declared.alloc.Global.{Global}
 use Rattle.sqlite.specs.State.{State}
@@ -17,7 +17,7 @@ use Rattle.fallowtime_commands.specs.declared.answer.Answer.TheVariants as answe
 use Rattle.fallowtime_session.specs.Deeds.{Deed, Did}
 use Rattle.fallowtime_messages.specs.Answers as told
 use Rattle.fallowtime_messages.specs.Done.{DoesAll}
-use Rattle.fallowtime_messages.specs.Outcomes.{AreImports, AreMeant, Carries, CarriesOrStarts, Comes, InsertsOrStarts, IsImport, IsMeant, PutsAll, Starts, Tells, TellsFault, TellsWritten, joined, told_by, told_of}
+use Rattle.fallowtime_messages.specs.Outcomes.{AreImports, AreMeant, Carries, CarriesOrStarts, Comes, InsertsOrStarts, IsImport, IsMeant, PutsAll, Starts, Tells, TellsBy, TellsClosed, TellsFault, TellsMore, TellsWritten, joined, told_by, told_of}
 use Rattle.fallowtime_plans.specs.Plans.{Asks, IsRefused}
 use Rattle.fallowtime_messages.specs.Runs.{RunsTo, Sums, changes, counts, deed_of, ids_from}
 use Rattle.fallowtime_plans.specs.declared.asked.Plan.{Plan}
@@ -31,13 +31,16 @@ use Rattle.fallowtime_plans.specs.declared.fault.Fault.TheVariants.{Memory, Refu
 use Rattle.fallowtime_messages.specs.declared.writing.Written.{Written}
 use Rattle.fallowtime_messages.proofs.DoneLemmas.{none_done, one_before, one_done}
 use Rattle.fallowtime_plans.proofs.ListLemmas.{zip_seen}
+use Rattle.fallowtime_cursors.specs.Waiting.{Wait}
 use Rattle.fallowtime_messages.proofs.RunLemmas.{run_begins}
+use Rattle.fallowtime_messages.proofs.UpsertLemmas.{found_begins}
 
 -- ---- one thing
 
-pub carried_one : (s : Statement) (w : Way) (o : Result Answer StoreError) (r : Result Document AllocError) (t u : State) → Did (Some (deed_of s o)) t u → IfOk o (IsAnswerTo s.request) → IfOk r (λ d. Tells w o (content d)) → DoesAll (CarriesOrStarts (plan.One s w) r) t u
-carried_one s w o (Ok d) t u did shape tells = (deed_of s o ∷ [], (deed_of s o, (refl, refl, shape), refl, tells), one_done t u (deed_of s o) did)
-carried_one s w o (Err e) t u did shape tells = (deed_of s o ∷ [], ((refl, refl, shape), tt), one_done t u (deed_of s o) did)
+pub carried_one : (s : Statement) (w : Way) (o : Result Answer StoreError) (r : Result Document AllocError) (old new : List Wait) (t u : State) → Did (Some (deed_of s o)) t u → IfOk o (IsAnswerTo s.request)
+    → IfOk r (λ d. TellsBy w o old new (content d)) → DoesAll (CarriesOrStarts (plan.One s w) old new r) t u
+carried_one s w o (Ok d) old new t u did shape tells = (deed_of s o ∷ [], (deed_of s o, (refl, refl, shape), refl, tells), one_done t u (deed_of s o) did)
+carried_one s w o (Err e) old new t u did shape tells = (deed_of s o ∷ [], ((refl, refl, shape), tt), one_done t u (deed_of s o) did)
 
 -- those of a batch
 pub found_as : (r : Result Document AllocError) (text space : List ℕ) (vs ws : Items) → text ≡ space → vs ≡ ws → IfOk r (λ d. content d ≡ told.found text vs) → IfOk r (λ d. content d ≡ told.found space ws)
@@ -55,10 +58,11 @@ changed_told (Ok d) removes body v means is = (v, means, is)
 changed_told (Err e) removes body v means is = tt
 
 -- the documents of a batch
-pub found_told : (r : Result Document AllocError) (bodies : List (Vec ℕ Global)) (xs : List Bson) (space text : List ℕ) → AllZip (λ (b : Vec ℕ Global) (v : Bson). IsMeant b.items (view v)) bodies xs → text ≡ space
-    → IfOk r (λ d. content d ≡ told.found text (items_of (map view xs))) → IfOk r (λ d. (vs : Items) × AreMeant (bytes_of_each bodies) vs × (content d ≡ told.found space vs))
-found_told (Ok d) bodies xs space text zip same is = (items_of (map view xs), (map view xs, refl, zip_seen IsMeant (λ (b : Vec ℕ Global). b.items) view bodies xs zip), is ∙ ap (λ t. told.found t (items_of (map view xs))) same)
-found_told (Err e) bodies xs space text zip same is = tt
+pub batch_told : (r : Result Document AllocError) (bodies : List (Vec ℕ Global)) (xs : List Bson) (key space text : List ℕ) (id n : ℤ) → n ≡ id → AllZip (λ (b : Vec ℕ Global) (v : Bson). IsMeant b.items (view v)) bodies xs → text ≡ space
+    → IfOk r (λ d. content d ≡ told.batch key n text (items_of (map view xs))) → IfOk r (λ d. (vs : Items) × AreMeant (bytes_of_each bodies) vs × (content d ≡ told.batch key id space vs))
+batch_told (Ok d) bodies xs key space text id n number zip same is =
+    (items_of (map view xs), (map view xs, refl, zip_seen IsMeant (λ (b : Vec ℕ Global). b.items) view bodies xs zip), is ∙ ap (λ z. told.batch key z text (items_of (map view xs))) number ∙ ap (λ t. told.batch key id t (items_of (map view xs))) same)
+batch_told (Err e) bodies xs key space text id n number zip same is = tt
 
 -- ---- changes
 
@@ -70,12 +74,12 @@ told_written changed w ds m sums tells =
     ∙ ap (λ vs. told.written changed (pos (counts ds)) (pos (changes ds)) (items_of vs) (items_of (map view w.errors.items))) sums.ids
     ∙ ap (λ vs. told.written changed (pos (counts ds)) (pos (changes ds)) (items_of (ids_from 0 ds)) (items_of vs)) sums.errors
 
-module _ (ss : Vec Statement Global) (stops changed : Bool) (t u : State) where
-  pub all_written : (w : Written) (r : Result Document AllocError) → DoesAll (RunsTo stops ss.items (Ok w)) t u → IfOk r (λ d. TellsWritten changed w (content d)) → DoesAll (CarriesOrStarts (plan.Writes ss stops changed) r) t u
-  all_written w (Ok d) (ds, (run, sums), moves) tells = (ds, (run, told_written changed w ds (content d) sums tells), moves)
+module _ (ss : Vec Statement Global) (stops changed : Bool) (ws : List Wait) (t u : State) where
+  pub all_written : (w : Written) (r : Result Document AllocError) → DoesAll (RunsTo stops ss.items (Ok w)) t u → IfOk r (λ d. TellsWritten changed w (content d)) → DoesAll (CarriesOrStarts (plan.Writes ss stops changed) ws ws r) t u
+  all_written w (Ok d) (ds, (run, sums), moves) tells = (ds, (refl, run, told_written changed w ds (content d) sums tells), moves)
   all_written w (Err e) (ds, (run, sums), moves) tells = (ds, run_begins stops ss.items ds run, moves)
 
-  pub some_written : (x e : AllocError) → DoesAll (RunsTo stops ss.items (Err x)) t u → DoesAll (CarriesOrStarts (plan.Writes ss stops changed) (Err e)) t u
+  pub some_written : (x e : AllocError) → DoesAll (RunsTo stops ss.items (Err x)) t u → DoesAll (CarriesOrStarts (plan.Writes ss stops changed) ws ws (Err e)) t u
   some_written x e (ds, begins, moves) = (ds, begins, moves)
 
 -- ---- insertions
@@ -108,31 +112,49 @@ module _ (name : List ℕ) (documents : List (List ℕ)) (stops : Bool) where
 
 -- ---- plans
 
-pub carried_told : (d : Document) (t : State) → DoesAll (CarriesOrStarts (plan.Told d) (Ok d)) t t
-carried_told d t = ([], (refl, refl), none_done t)
+pub carried_told : (d : Document) (ws : List Wait) (t : State) → DoesAll (CarriesOrStarts (plan.Told d) ws ws (Ok d)) t t
+carried_told d ws t = ([], (refl, refl, refl), none_done t)
+
+pub carried_more : (space : String Global) (id n : ℤ) (text : List ℕ) (size : ℕ) (old new : List Wait) (r : Result Document AllocError) (t : State) → n ≡ id → text ≡ string_bytes space → IfOk r (λ d. TellsMore text n size old new (content d))
+    → DoesAll (CarriesOrStarts (plan.More space id size) old new r) t t
+carried_more space id n text size old new (Ok d) t is same tells =
+    ([], (refl, subst (λ z. TellsMore (string_bytes space) z size old new (content d)) is (subst (λ x. TellsMore x n size old new (content d)) same tells)), none_done t)
+carried_more space id n text size old new (Err e) t is same tells = ([], refl, none_done t)
+
+pub carried_closed : (space : String Global) (ids : Vec ℤ Global) (old new : List Wait) (r : Result Document AllocError) (t : State) → IfOk r (λ d. TellsClosed (string_bytes space) ids.items old new (content d)) → DoesAll (CarriesOrStarts (plan.Closes space ids) old new r) t t
+carried_closed space ids old new (Ok d) t tells = ([], (refl, tells), none_done t)
+carried_closed space ids old new (Err e) t tells = ([], refl, none_done t)
+
+pub carried_inserts : (name : String Global) (documents : Vec (Vec ℕ Global) Global) (stops : Bool) (ws : List Wait) (r : Result Document AllocError) (t u : State) → DoesAll (InsertsOrStarts (string_bytes name) (bytes_of_each documents.items) stops r) t u
+    → DoesAll (CarriesOrStarts (plan.Inserts name documents stops) ws ws r) t u
+carried_inserts name documents stops ws (Ok d) t u (ds, inserts, moves) = (ds, (refl, inserts), moves)
+carried_inserts name documents stops ws (Err e) t u (ds, begins, moves) = (ds, begins, moves)
 
 -- what is carried out begins
-starts : (p : Plan) (ds : List Deed) (m : Members) → Carries p ds m → Starts p ds
-starts (plan.Told d) ds m h = h.0
-starts (plan.One s w) ds m (d, deed, one, tells) = subst (λ xs. Starts (plan.One s w) xs) (sym one) (deed, tt)
-starts (plan.Writes ss stops changed) ds m h = run_begins stops ss.items ds h.0
-starts (plan.Inserts name documents stops) ds m (s, d, rest, is, deed, split, inl all) = inr (s, d, rest, is, deed, split, inl all.2)
-starts (plan.Inserts name documents stops) ds m (s, d, rest, is, deed, split, inr (none, (ss, are, run), tells)) = inr (s, d, rest, is, deed, split, inr (none, (ss, are, run_begins stops ss rest run)))
+starts : (p : Plan) (old new : List Wait) (ds : List Deed) (m : Members) → Carries p old new ds m → Starts p ds
+starts (plan.Told d) old new ds m h = h.0
+starts (plan.One s w) old new ds m (d, deed, one, tells) = subst (λ xs. Starts (plan.One s w) xs) (sym one) (deed, tt)
+starts (plan.More space id size) old new ds m h = h.0
+starts (plan.Closes space ids) old new ds m h = h.0
+starts (plan.Upserts ss) old new ds m h = found_begins ss.items ds m h.1
+starts (plan.Writes ss stops changed) old new ds m h = run_begins stops ss.items ds h.1
+starts (plan.Inserts name documents stops) old new ds m (same, (s, d, rest, is, deed, split, inl all)) = inr (s, d, rest, is, deed, split, inl all.2)
+starts (plan.Inserts name documents stops) old new ds m (same, (s, d, rest, is, deed, split, inr (none, (ss, are, run), tells))) = inr (s, d, rest, is, deed, split, inr (none, (ss, are, run_begins stops ss rest run)))
 
 -- ---- commands
 
-module _ (db : List ℕ) (ms : Members) (ss : List Sequence) where
-  pub carried : (p : Plan) (r : Result Document AllocError) (t u : State) → Asks db ms ss p → DoesAll (CarriesOrStarts p r) t u → DoesAll (Comes db ms ss (told_by r)) t u
+module _ (db : List ℕ) (ms : Members) (ss : List Sequence) (old new : List Wait) where
+  pub carried : (p : Plan) (r : Result Document AllocError) (t u : State) → Asks db ms ss p → DoesAll (CarriesOrStarts p old new r) t u → DoesAll (Comes db ms ss old new (told_by r)) t u
   carried p (Ok d) t u asks (ds, is, moves) = (ds, inr (p, asks, inl is), moves)
   carried p (Err e) t u asks (ds, is, moves) = (ds, inr (p, asks, inr (is, refl)), moves)
 
-  pub refused : (f : Fault) (r : Result Document AllocError) (t : State) → IsRefused ms f → TellsFault f (told_by r) → DoesAll (Comes db ms ss (told_by r)) t t
-  refused f r t is tells = ([], inl (refl, (f, is, tells)), none_done t)
+  pub refused : (f : Fault) (r : Result Document AllocError) (t : State) → new ≡ old → IsRefused ms f → TellsFault f (told_by r) → DoesAll (Comes db ms ss old new (told_by r)) t t
+  refused f r t same is tells = ([], inl (refl, same, (f, is, tells)), none_done t)
 
   -- there may be no room for what is told
-  pub no_room_too : (m : Members) (ds : List Deed) → Comes db ms ss m ds → Comes db ms ss told.no_room ds
-  no_room_too m ds (inl h) = inl (h.0, (Memory, inl tt, refl))
-  no_room_too m ds (inr (p, asks, inl carries)) = inr (p, asks, inr (starts p ds m carries, refl))
+  pub no_room_too : (m : Members) (ds : List Deed) → Comes db ms ss old new m ds → Comes db ms ss old new told.no_room ds
+  no_room_too m ds (inl h) = inl (h.0, h.1, (Memory, inl tt, refl))
+  no_room_too m ds (inr (p, asks, inl carries)) = inr (p, asks, inr (starts p old new ds m carries, refl))
   no_room_too m ds (inr (p, asks, inr begins)) = inr (p, asks, inr (begins.0, refl))
 
 -- ---- what is told

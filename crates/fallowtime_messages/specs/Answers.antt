@@ -16,12 +16,21 @@ counted skip most n = min most (n - skip)
 abbrev pub counts : ℤ → Members
 counts n = member (codes "n") (scalar (int64 n)) done
 
--- the documents of a first batch, behind which there are no more ("find"), of a database and a collection with a point between them: the
--- cursor 0, as a number of 64 bits
+-- The documents of a batch, under a key ("find", "getMore"), of a database and a collection with a point between them, and the number by
+-- which more is asked for, or 0 if there is no more. The key is first, and is none of the others.
+abbrev pub batch : List ℕ → ℤ → List ℕ → Items → Members
+batch key id namespace ds =
+    member (codes "cursor") (document (member key (array ds) (member (codes "id") (scalar (int64 id)) (member (codes "ns") (scalar (string namespace)) no_members)))) done
+
+-- all of them
 abbrev pub found : List ℕ → Items → Members
-found namespace ds =
-    member (codes "cursor") (document (member (codes "firstBatch") (array ds) (member (codes "id") (scalar (int64 (pos 0)))
-    (member (codes "ns") (scalar (string namespace)) no_members)))) done
+found namespace ds = batch (codes "firstBatch") (pos 0) namespace ds
+
+-- the numbers of the finds that waited, and of those that didn't ("killCursors")
+abbrev pub closed : Items → Items → Members
+closed killed missing =
+    member (codes "cursorsKilled") (array killed) (member (codes "cursorsNotFound") (array missing) (member (codes "cursorsAlive") (array no_items)
+    (member (codes "cursorsUnknown") (array no_items) done)))
 
 -- a group of that many, if there are some ("aggregate")
 abbrev pub group_of : Value → ℤ → Value
@@ -52,6 +61,12 @@ last false is = member (codes "n") (scalar (int32 (found_number is))) (member (c
 abbrev pub modified : Bool → Bool → Value → Members
 modified removes is v = member (codes "lastErrorObject") (document (last removes is)) (member (codes "value") v done)
 
+-- the document that was put in as none was found, or null if it isn't wanted ("findAndModify" with "upsert")
+abbrev pub put_in : Value → Value → Members
+put_in id v =
+    member (codes "lastErrorObject") (document (member (codes "n") (scalar (int32 (pos 1))) (member (codes "updatedExisting") (scalar (boolean false)) (member (codes "upserted") id no_members))))
+    (member (codes "value") v done)
+
 -- a document of a list that wasn't written: its place in the list, and why
 abbrev pub write_error : ℤ → Code → List ℕ → Value
 write_error place c why =
@@ -80,6 +95,10 @@ abbrev pub refused : List ℕ → Code → Members
 refused why c =
     member (codes "ok") (scalar (double 0)) (member (codes "errmsg") (scalar (string why)) (member (codes "code") (scalar (int32 (code_number c)))
     (member (codes "codeName") (scalar (string (code_name c))) no_members)))
+
+-- a collection with so many documents ("create")
+abbrev pub made : ℕ → Members
+made n = if n == 0 then done else refused (codes "create") code.NamespaceExists
 
 -- there is no memory for an answer, or it would be longer than a message may be; what was asked may have been done
 abbrev pub no_room : Members

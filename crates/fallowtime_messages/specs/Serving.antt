@@ -18,6 +18,7 @@ use Rattle.bson_message.specs.declared.op_query.OpQuery.{OpQuery}
 use Rattle.bson_message.specs.declared.section.Sequence.{Sequence}
 use Rattle.bson_raw.specs.View.{bytes_of}
 use Rattle.fallowtime_session.specs.Deeds.{Deed}
+use Rattle.fallowtime_cursors.specs.Waiting.{Wait}
 use Rattle.fallowtime_messages.specs.Answers as told
 use Rattle.fallowtime_plans.specs.Fields.{first_key, named}
 use Rattle.fallowtime_messages.specs.Outcomes.{Comes}
@@ -31,9 +32,9 @@ damaged = told.refused (codes "the message is damaged") code.ProtocolError
 
 -- An OP_MSG: what comes of the command that its document means, with the sequences beside it; if the document can't be read, nothing was
 -- done.
-abbrev pub ComesOfMsg : List ℕ → OpMsg → Members → List Deed → Type 0
-ComesOfMsg db m answer ds = ((ds ≡ []) × ((answer ≡ damaged) ⊎ (answer ≡ told.no_room)))
-    ⊎ ((ms : Members) × (ss : List Sequence) × Means (bytes_of m.body) ms × Lists m ss × Comes db ms ss answer ds)
+abbrev pub ComesOfMsg : List ℕ → OpMsg → List Wait → List Wait → Members → List Deed → Type 0
+ComesOfMsg db m old new answer ds = ((ds ≡ []) × (new ≡ old) × ((answer ≡ damaged) ⊎ (answer ≡ told.no_room)))
+    ⊎ ((ms : Members) × (ss : List Sequence) × Means (bytes_of m.body) ms × Lists m ss × Comes db ms ss old new answer ds)
 
 -- An OP_QUERY is answered if it asks what the server is, as an older driver does first.
 abbrev pub IsGreeting : Members → Type 0
@@ -42,10 +43,11 @@ IsGreeting ms = (key : List ℕ) × (first_key ms ≡ Some key) × (named key �
 abbrev pub ComesOfQuery : OpQuery → Members → Type 0
 ComesOfQuery q answer = (answer ≡ damaged) ⊎ (answer ≡ told.no_room) ⊎ ((ms : Members) × Means (bytes_of q.query) ms × IsGreeting ms × (answer ≡ hello))
 
-abbrev pub ComesOf : List ℕ → Result Body Fault → Members → List Deed → Type 0
-ComesOf db (Ok (Msg m)) answer ds = ComesOfMsg db m answer ds
-ComesOf db (Ok (Query q)) answer ds = (ds ≡ []) × ComesOfQuery q answer
-ComesOf db (Err e) answer ds = (ds ≡ []) × ((answer ≡ damaged) ⊎ (answer ≡ told.no_room))
+-- and what waits of finds before and behind it
+abbrev pub ComesOf : List ℕ → Result Body Fault → List Wait → List Wait → Members → List Deed → Type 0
+ComesOf db (Ok (Msg m)) old new answer ds = ComesOfMsg db m old new answer ds
+ComesOf db (Ok (Query q)) old new answer ds = (ds ≡ []) × (new ≡ old) × ComesOfQuery q answer
+ComesOf db (Err e) old new answer ds = (ds ≡ []) × (new ≡ old) × ((answer ≡ damaged) ⊎ (answer ≡ told.no_room))
 
 -- the bytes of an answer with a number to a message with another number, in the form of the message
 abbrev pub reply_to : Result Body Fault → ℕ → ℕ → Members → List ℕ
@@ -59,20 +61,20 @@ WantsNone said = ⊥
 
 -- What is sent for bytes, and what was done: for those of a message one answer, with the number of that message, unless it wants none;
 -- for others nothing. If there is no memory even for the answer that says so, nothing was done.
-abbrev pub Serves : List ℕ → ℕ → List ℕ → Result (Option (Vec ℕ Global)) AllocError → List Deed → Type 0
-Serves db number bytes (Err e) ds = ds ≡ []
-Serves db number bytes (Ok None) ds = ((ds ≡ []) × (AreDeclared bytes → ⊥))
-    ⊎ ((h : Header) × (said : Result Body Fault) × (answer : Members) × HasHeader bytes h × Says bytes h.operation (drop 16 bytes) said × WantsNone said × ComesOf db said answer ds)
-Serves db number bytes (Ok (Some out)) ds = (h : Header) × (said : Result Body Fault) × (answer : Members) × HasHeader bytes h × Says bytes h.operation (drop 16 bytes) said
-    × (out.items ≡ reply_to said number h.request answer) × ComesOf db said answer ds
+abbrev pub Serves : List ℕ → ℕ → List ℕ → List Wait → List Wait → Result (Option (Vec ℕ Global)) AllocError → List Deed → Type 0
+Serves db number bytes old new (Err e) ds = (ds ≡ []) × (new ≡ old)
+Serves db number bytes old new (Ok None) ds = ((ds ≡ []) × (new ≡ old) × (AreDeclared bytes → ⊥))
+    ⊎ ((h : Header) × (said : Result Body Fault) × (answer : Members) × HasHeader bytes h × Says bytes h.operation (drop 16 bytes) said × WantsNone said × ComesOf db said old new answer ds)
+Serves db number bytes old new (Ok (Some out)) ds = (h : Header) × (said : Result Body Fault) × (answer : Members) × HasHeader bytes h × Says bytes h.operation (drop 16 bytes) said
+    × (out.items ≡ reply_to said number h.request answer) × ComesOf db said old new answer ds
 
 -- ---- its parts
 
 -- what is sent for an OP_MSG
-abbrev pub ServesMsg : List ℕ → ℕ → ℕ → OpMsg → Result (Option (Vec ℕ Global)) AllocError → List Deed → Type 0
-ServesMsg db number request m (Err e) ds = ds ≡ []
-ServesMsg db number request m (Ok None) ds = (answer : Members) × (m.flags % 4 < 2 → ⊥) × ComesOfMsg db m answer ds
-ServesMsg db number request m (Ok (Some out)) ds = (answer : Members) × (out.items ≡ msg_bytes number request (encode answer)) × ComesOfMsg db m answer ds
+abbrev pub ServesMsg : List ℕ → ℕ → ℕ → OpMsg → List Wait → List Wait → Result (Option (Vec ℕ Global)) AllocError → List Deed → Type 0
+ServesMsg db number request m old new (Err e) ds = (ds ≡ []) × (new ≡ old)
+ServesMsg db number request m old new (Ok None) ds = (answer : Members) × (m.flags % 4 < 2 → ⊥) × ComesOfMsg db m old new answer ds
+ServesMsg db number request m old new (Ok (Some out)) ds = (answer : Members) × (out.items ≡ msg_bytes number request (encode answer)) × ComesOfMsg db m old new answer ds
 
 -- the bytes of this answer, or of the one for no room
 abbrev pub IsMsgOf : ℕ → ℕ → Members → List ℕ → Type 0

@@ -1,6 +1,6 @@
 //! The documents that commands are answered with.
 
-ghost use Rattle.std.specs.Prelude.{◌≡◌, IfOk, OnOk, is_some, map, pos, string_bytes, unwrap_or};
+ghost use Rattle.std.specs.Prelude.{◌≡◌, IfOk, OnOk, codes, is_some, map, pos, string_bytes, unwrap_or};
 ghost use Rattle.bson_model.specs.View.{content, items_of, pairs_of, view};
 ghost use Rattle.fallowtime_messages.specs.Answers as answer;
 ghost use Rattle.fallowtime_messages.specs.Answers.{after_changed, after_list};
@@ -19,7 +19,43 @@ pub(crate) fn counts(alloc: Global, number: i64) -> Result<Document, AllocError>
     done(told, alloc)
 }
 
-/// The answer to `find` whose documents are all in its first batch.
+/// The answer that tells the first batch of the find with this number, of this collection behind its database.
+pub(crate) fn first_batch(
+    alloc: Global,
+    id: i64,
+    namespace: String,
+    documents: Array,
+) -> Result<Document, AllocError>
+    ensures { IfOk result (λ d. content d ≡ answer.batch (codes "firstBatch") id (string_bytes namespace) (items_of (map view documents.items))) }
+{
+    let mut cursor = Document::new(alloc);
+    put(&mut cursor, alloc, "firstBatch", Bson::Array(documents))?;
+    put(&mut cursor, alloc, "id", Bson::Int64(id))?;
+    put(&mut cursor, alloc, "ns", Bson::String(namespace))?;
+    let mut told = Document::new(alloc);
+    put(&mut told, alloc, "cursor", Bson::Document(cursor))?;
+    done(told, alloc)
+}
+
+/// The answer that tells a further batch of it.
+pub(crate) fn next_batch(
+    alloc: Global,
+    id: i64,
+    namespace: String,
+    documents: Array,
+) -> Result<Document, AllocError>
+    ensures { IfOk result (λ d. content d ≡ answer.batch (codes "nextBatch") id (string_bytes namespace) (items_of (map view documents.items))) }
+{
+    let mut cursor = Document::new(alloc);
+    put(&mut cursor, alloc, "nextBatch", Bson::Array(documents))?;
+    put(&mut cursor, alloc, "id", Bson::Int64(id))?;
+    put(&mut cursor, alloc, "ns", Bson::String(namespace))?;
+    let mut told = Document::new(alloc);
+    put(&mut told, alloc, "cursor", Bson::Document(cursor))?;
+    done(told, alloc)
+}
+
+/// The answer that tells all documents in a first batch.
 pub(crate) fn found(
     alloc: Global,
     namespace: String,
@@ -27,12 +63,28 @@ pub(crate) fn found(
 ) -> Result<Document, AllocError>
     ensures { IfOk result (λ d. content d ≡ answer.found (string_bytes namespace) (items_of (map view documents.items))) }
 {
-    let mut cursor = Document::new(alloc);
-    put(&mut cursor, alloc, "firstBatch", Bson::Array(documents))?;
-    put(&mut cursor, alloc, "id", Bson::Int64(0))?;
-    put(&mut cursor, alloc, "ns", Bson::String(namespace))?;
+    first_batch(alloc, 0, namespace, documents)
+}
+
+/// The answer to `killCursors`: the numbers of the finds that waited, and of those that didn't.
+pub(crate) fn closed(alloc: Global, killed: Array, missing: Array) -> Result<Document, AllocError>
+    ensures { IfOk result (λ d. content d ≡ answer.closed (items_of (map view killed.items)) (items_of (map view missing.items))) }
+{
     let mut told = Document::new(alloc);
-    put(&mut told, alloc, "cursor", Bson::Document(cursor))?;
+    put(&mut told, alloc, "cursorsKilled", Bson::Array(killed))?;
+    put(&mut told, alloc, "cursorsNotFound", Bson::Array(missing))?;
+    put(
+        &mut told,
+        alloc,
+        "cursorsAlive",
+        Bson::Array(Vec::new(alloc)),
+    )?;
+    put(
+        &mut told,
+        alloc,
+        "cursorsUnknown",
+        Bson::Array(Vec::new(alloc)),
+    )?;
     done(told, alloc)
 }
 
@@ -109,6 +161,20 @@ pub(crate) fn modified(
         "lastErrorObject",
         Bson::Document(last(alloc, removes, is)?),
     )?;
+    put(&mut told, alloc, "value", value)?;
+    done(told, alloc)
+}
+
+/// The answer to `findAndModify` that put a document in: the document, or null if it isn't wanted.
+pub(crate) fn put_in(alloc: Global, id: &Bson, value: Bson) -> Result<Document, AllocError>
+    ensures { IfOk result (λ d. content d ≡ answer.put_in (view id.now) (view value)) }
+{
+    let mut last = Document::new(alloc);
+    put(&mut last, alloc, "n", Bson::Int32(1))?;
+    put(&mut last, alloc, "updatedExisting", Bson::Boolean(false))?;
+    put(&mut last, alloc, "upserted", id.try_clone(alloc)?)?;
+    let mut told = Document::new(alloc);
+    put(&mut told, alloc, "lastErrorObject", Bson::Document(last))?;
     put(&mut told, alloc, "value", value)?;
     done(told, alloc)
 }
@@ -195,6 +261,17 @@ pub(crate) fn no_room(alloc: Global) -> Result<Document, AllocError>
 {
     let why = String::from_str(alloc, "no room for the answer")?;
     refused(alloc, why, Code::ExceededMemoryLimit)
+}
+
+/// The answer to `create` of a collection with so many documents: it is there if it has some.
+pub(crate) fn made(alloc: Global, number: u64) -> Result<Document, AllocError>
+    ensures { IfOk result (λ d. content d ≡ answer.made number) }
+{
+    if number == 0 {
+        return done(Document::new(alloc), alloc);
+    }
+    let why = String::from_str(alloc, "create")?;
+    refused(alloc, why, Code::NamespaceExists)
 }
 
 /// The answer to a command that wasn't done.

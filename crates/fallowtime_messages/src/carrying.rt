@@ -1,18 +1,22 @@
 //! What a command asks, done on a store.
 
-ghost use Rattle.std.specs.Prelude.{◌≡◌, IfOk, string_bytes};
+ghost use Rattle.std.specs.Prelude.{◌≡◌, IfOk, List, string_bytes};
 ghost use Rattle.std.specs.List.{AllZip};
 ghost use Rattle.bson_store.specs.Calls.{store_state};
 ghost use Rattle.bson_store.specs.Export.{bytes_of_each};
+ghost use Rattle.fallowtime_cursors.specs.Waiting.{Wait, waiting};
 ghost use Rattle.fallowtime_messages.specs.Done.{DoesAll};
 ghost use Rattle.fallowtime_messages.specs.Outcomes.{CarriesOrStarts, InsertsOrStarts, IsImport, PutsAll, joined, number_of};
 ghost use Rattle.fallowtime_plans.specs.declared.asked.Plan.TheVariants as plans;
 
-use crate::telling::{tell, tell_inserted, tell_written};
+use crate::batches::{tell_by, tell_closed, tell_more};
+use crate::telling::{tell_inserted, tell_written};
+use crate::upserting::carry_upsert;
 use crate::writing::{discard, perform_statement, write_all};
 use bson_model::Document;
 use bson_store::{Store, StoreError};
 use fallowtime_commands::Answer;
+use fallowtime_cursors::Cursors;
 use fallowtime_plans::{Plan, Statement, Way, copy_of};
 use fallowtime_requests::Request;
 use sqlite::Alter;
@@ -22,15 +26,16 @@ use std::alloc::{AllocError, Global};
 fn carry_one<S: Alter + Drop>(
     alloc: Global,
     store: &mut Store<S>,
+    cursors: &mut Cursors,
     statement: Statement,
     way: &Way,
 ) -> Result<Document, AllocError>
-    ensures { DoesAll (CarriesOrStarts (plans.One statement way.now) result) (store_state S.Store store.old) (store_state S.Store store.new) }
+    ensures { DoesAll (CarriesOrStarts (plans.One statement way.now) (waiting cursors.old) (waiting cursors.new) result) (store_state S.Store store.old) (store_state S.Store store.new) }
 {
     let mut statement = statement;
-    let outcome = perform_statement(alloc, store, &mut statement);
+    let mut outcome = perform_statement(alloc, store, &mut statement);
     discard(statement);
-    tell(alloc, way, &outcome)
+    tell_by(alloc, cursors, way, &mut outcome)
 }
 
 /// The bytes of documents, one after the other.
@@ -137,7 +142,7 @@ fn carry_writes<S: Alter + Drop>(
     stops: bool,
     told_changed: bool,
 ) -> Result<Document, AllocError>
-    ensures { DoesAll (CarriesOrStarts (plans.Writes statements stops told_changed) result) (store_state S.Store store.old) (store_state S.Store store.new) }
+    ensures { (xs : List Wait) → DoesAll (CarriesOrStarts (plans.Writes statements stops told_changed) xs xs result) (store_state S.Store store.old) (store_state S.Store store.new) }
 {
     let written = write_all(alloc, store, statements, stops)?;
     tell_written(alloc, written, told_changed)
@@ -149,16 +154,20 @@ fn carry_writes<S: Alter + Drop>(
 pub(crate) fn carry<S: Alter + Drop>(
     alloc: Global,
     store: &mut Store<S>,
+    cursors: &mut Cursors,
     plan: Plan,
 ) -> Result<Document, AllocError>
-    ensures { DoesAll (CarriesOrStarts plan result) (store_state S.Store store.old) (store_state S.Store store.new) }
+    ensures { DoesAll (CarriesOrStarts plan (waiting cursors.old) (waiting cursors.new) result) (store_state S.Store store.old) (store_state S.Store store.new) }
 {
     match plan {
         Plan::Told(document) => Ok(document),
-        Plan::One(statement, way) => carry_one(alloc, store, statement, &way),
+        Plan::One(statement, way) => carry_one(alloc, store, cursors, statement, &way),
+        Plan::More(space, id, size) => tell_more(alloc, cursors, space.as_str(), id, size),
+        Plan::Closes(space, ids) => { tell_closed(alloc, cursors, space.as_str(), ids.as_slice()) }
         Plan::Writes(statements, stops, told_changed) => {
             carry_writes(alloc, store, statements, stops, told_changed)
         }
+        Plan::Upserts(statements) => carry_upsert(alloc, store, statements),
         Plan::Inserts(name, documents, stops) => {
             carry_inserts(alloc, store, &name, documents.as_slice(), stops)
         }

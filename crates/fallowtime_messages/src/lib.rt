@@ -2,9 +2,11 @@
 #![tactic(auto)]
 
 mod answers;
+mod batches;
 mod carrying;
 mod serving;
 mod telling;
+mod upserting;
 mod writing;
 
 pub use serving::serve;

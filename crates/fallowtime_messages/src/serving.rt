@@ -9,6 +9,7 @@ ghost use Rattle.bson_message.specs.Replies.{msg_bytes, reply_bytes};
 ghost use Rattle.bson_model.specs.View.{content};
 ghost use Rattle.bson_raw.specs.View.{bytes_of};
 ghost use Rattle.bson_store.specs.Calls.{store_state};
+ghost use Rattle.fallowtime_cursors.specs.Waiting.{waiting};
 ghost use Rattle.fallowtime_messages.specs.Answers as told;
 ghost use Rattle.fallowtime_messages.specs.Done.{DoesAll};
 ghost use Rattle.fallowtime_messages.specs.Outcomes.{Comes, TellsFault, told_by};
@@ -22,6 +23,7 @@ use bson_message::{Body, OpMsg, OpQuery, Sequence, message_of, old_reply, reply}
 use bson_model::Document;
 use bson_raw::RawDocument;
 use bson_store::Store;
+use fallowtime_cursors::Cursors;
 use fallowtime_plans::{Code, Fault, Name, first_key, hello, name_of, plan};
 use fallowtime_texts::IdMaker;
 use sqlite::Alter;
@@ -51,15 +53,16 @@ fn tell_fault(alloc: Global, fault: Fault) -> Result<Document, AllocError>
 fn answer_command<S: Alter + Drop>(
     alloc: Global,
     store: &mut Store<S>,
+    cursors: &mut Cursors,
     maker: &mut IdMaker,
     database: &str,
     command: &Document,
     lists: &[Sequence<'_>],
 ) -> Result<Document, AllocError>
-    ensures { DoesAll (Comes database.now (content command.now) lists.now (told_by result)) (store_state S.Store store.old) (store_state S.Store store.new) }
+    ensures { DoesAll (Comes database.now (content command.now) lists.now (waiting cursors.old) (waiting cursors.new) (told_by result)) (store_state S.Store store.old) (store_state S.Store store.new) }
 {
     match plan(alloc, maker, database, command, lists) {
-        Ok(plan) => carry(alloc, store, plan),
+        Ok(plan) => carry(alloc, store, cursors, plan),
         Err(fault) => tell_fault(alloc, fault),
     }
 }
@@ -83,16 +86,25 @@ fn command_of(alloc: Global, body: RawDocument<'_>) -> Result<Option<Document>, 
 fn answer_msg<S: Alter + Drop>(
     alloc: Global,
     store: &mut Store<S>,
+    cursors: &mut Cursors,
     maker: &mut IdMaker,
     database: &str,
     message: OpMsg<'_>,
 ) -> Result<Document, AllocError>
-    ensures { DoesAll (ComesOfMsg database.now message.entry (told_by result)) (store_state S.Store store.old) (store_state S.Store store.new) }
+    ensures { DoesAll (ComesOfMsg database.now message.entry (waiting cursors.old) (waiting cursors.new) (told_by result)) (store_state S.Store store.old) (store_state S.Store store.new) }
 {
     let lists = message.sequences(alloc)?;
     match command_of(alloc, message.body)? {
         Some(command) => {
-            answer_command(alloc, store, maker, database, &command, lists.as_slice())
+            answer_command(
+                alloc,
+                store,
+                cursors,
+                maker,
+                database,
+                &command,
+                lists.as_slice(),
+            )
         }
         None => damaged(alloc),
     }
@@ -170,16 +182,17 @@ fn finished(
 fn serve_msg<S: Alter + Drop>(
     alloc: Global,
     store: &mut Store<S>,
+    cursors: &mut Cursors,
     maker: &mut IdMaker,
     database: &str,
     number: u32,
     request: u32,
     message: OpMsg<'_>,
 ) -> Result<Option<Vec<u8>>, AllocError>
-    ensures { DoesAll (ServesMsg database.now number request message.entry result) (store_state S.Store store.old) (store_state S.Store store.new) }
+    ensures { DoesAll (ServesMsg database.now number request message.entry (waiting cursors.old) (waiting cursors.new) result) (store_state S.Store store.old) (store_state S.Store store.new) }
 {
     let spare = spare(alloc, number, request)?;
-    let answer = answer_msg(alloc, store, maker, database, message);
+    let answer = answer_msg(alloc, store, cursors, maker, database, message);
     if !message.is_answered() {
         return Ok(None);
     }
@@ -216,19 +229,20 @@ fn serve_damaged(alloc: Global, number: u32, request: u32) -> Result<Vec<u8>, Al
 /// Does what a message asks of the store, which is the database of this name, and returns the bytes of its answer, which
 /// has this number: an OP_MSG, or an OP_REPLY to an OP_QUERY. None for a message that wants no answer ("moreToCome"), and
 /// for bytes that aren't the one message that they declare. What is asked and can't be read is refused in the answer, and
-/// nothing is done then; so is a message that is damaged. The
-/// maker makes the `_id` of a document that is put in without one as none answered.
+/// nothing is done then; so is a message that is damaged. The maker makes the `_id` of a document that is put in without
+/// one as none answered. What was found and not told yet waits in `cursors`.
 ///
 /// Fails if there is no memory even for the answer that says so; then nothing was done.
 pub fn serve<S: Alter + Drop>(
     alloc: Global,
     store: &mut Store<S>,
+    cursors: &mut Cursors,
     maker: &mut IdMaker,
     database: &str,
     number: u32,
     bytes: &[u8],
 ) -> Result<Option<Vec<u8>>, AllocError>
-    ensures { DoesAll (Serves database.now number bytes.now result) (store_state S.Store store.old) (store_state S.Store store.new) }
+    ensures { DoesAll (Serves database.now number bytes.now (waiting cursors.old) (waiting cursors.new) result) (store_state S.Store store.old) (store_state S.Store store.new) }
 {
     let Ok((header, said)) = message_of(bytes) else {
         return Ok(None);
@@ -238,6 +252,7 @@ pub fn serve<S: Alter + Drop>(
             serve_msg(
                 alloc,
                 store,
+                cursors,
                 maker,
                 database,
                 number,

@@ -14,7 +14,7 @@ ghost use Rattle.fallowtime_plans.specs.declared.asked.Way.TheVariants as ways;
 ghost use Rattle.std.specs.declared.alloc.Global.{Global as Allocator};
 ghost use Rattle.store_distinct.specs.Counted.{value_in};
 
-use crate::answers::{collection, counts, found, group, modified, refused, values, written};
+use crate::answers::{collection, counts, found, group, made, modified, refused, values, written};
 use crate::writing::Written;
 use bson_model::{Array, Bson, Document};
 use bson_raw::RawDocument;
@@ -67,14 +67,14 @@ fn meant(alloc: Global, body: &[u8]) -> Result<Document, AllocError>
 }
 
 /// The document that bytes mean, as an item.
-fn item_of(alloc: Global, body: &[u8]) -> Result<Bson, AllocError>
+pub(crate) fn item_of(alloc: Global, body: &[u8]) -> Result<Bson, AllocError>
     ensures { IfOk result (λ v. IsMeant body.now (view v)) }
 {
     Ok(Bson::Document(meant(alloc, body)?))
 }
 
 /// The documents that bytes mean.
-fn batch(alloc: Global, bodies: &[Vec<u8>]) -> Result<Array, AllocError>
+pub(crate) fn items_of_each(alloc: Global, bodies: &[Vec<u8>]) -> Result<Array, AllocError>
     ensures { IfOk result (λ items. AllZip (λ b (v : AnyValue). IsMeant b.items (view v)) bodies.now items.items) }
 {
     let mut items = Vec::new(alloc);
@@ -123,20 +123,7 @@ fn tell_number(alloc: Global, way: &Way, number: u64) -> Result<Document, AllocE
         Way::Grouped(space, id, skip, most) => {
             tell_group(alloc, space, id, counted(*skip, *most, number))
         }
-        _ => Err(AllocError),
-    }
-}
-
-/// The document that tells documents.
-fn tell_documents(alloc: Global, way: &Way, bodies: &Vec<Vec<u8>>) -> Result<Document, AllocError>
-    ensures { IfOk result (λ d. Tells way.now (Ok (answer.Documents bodies.now)) (content d)) }
-{
-    match way {
-        Way::Found(space) => {
-            let name = copied(alloc, space)?;
-            let documents = batch(alloc, bodies.as_slice())?;
-            found(alloc, name, documents)
-        }
+        Way::Made => made(alloc, number),
         _ => Err(AllocError),
     }
 }
@@ -253,7 +240,6 @@ pub(crate) fn tell(
 {
     match outcome {
         Ok(Answer::Number(number)) => tell_number(alloc, way, *number),
-        Ok(Answer::Documents(bodies)) => tell_documents(alloc, way, bodies),
         Ok(Answer::Found(body)) => tell_modified(alloc, way, body),
         Ok(Answer::NotUpdated(place, error)) => tell_not_updated(alloc, way, *place, *error),
         Ok(Answer::Values(counted, counts)) => tell_values(alloc, way, *counts, counted),

@@ -3,6 +3,7 @@ pub mod ListLemmas
 pub mod LineLemmas
 pub mod ChangeLemmas
 pub mod CountLemmas
+pub mod FindLemmas
 pub mod ModifyLemmas
 pub mod PlanLemmas
 pub mod GivenLemmas

@@ -35,6 +35,9 @@ names_of name.Aggregate = codes "aggregate" ∷ []
 names_of name.FindAndModify = codes "findAndModify" ∷ []
 names_of name.Distinct = codes "distinct" ∷ []
 names_of name.ListCollections = codes "listCollections" ∷ []
+names_of name.Create = codes "create" ∷ []
+names_of name.CreateIndexes = codes "createIndexes" ∷ []
+names_of name.ListDatabases = codes "listDatabases" ∷ []
 names_of name.GetMore = codes "getMore" ∷ []
 names_of name.KillCursors = codes "killCursors" ∷ []
 names_of n = []
@@ -55,6 +58,9 @@ named key =
     else if is_among (names_of name.FindAndModify) key then Some name.FindAndModify
     else if is_among (names_of name.Distinct) key then Some name.Distinct
     else if is_among (names_of name.ListCollections) key then Some name.ListCollections
+    else if is_among (names_of name.Create) key then Some name.Create
+    else if is_among (names_of name.CreateIndexes) key then Some name.CreateIndexes
+    else if is_among (names_of name.ListDatabases) key then Some name.ListDatabases
     else if is_among (names_of name.GetMore) key then Some name.GetMore
     else if is_among (names_of name.KillCursors) key then Some name.KillCursors
     else None
@@ -80,7 +86,13 @@ of_transactions = codes "txnNumber" ∷ codes "startTransaction" ∷ codes "auto
 abbrev pub not_had : List (List ℕ)
 not_had =
     codes "collation" ∷ codes "filter" ∷ codes "min" ∷ codes "max" ∷ codes "let" ∷ codes "fields" ∷ codes "returnKey" ∷ codes "showRecordId"
-    ∷ codes "tailable" ∷ codes "awaitData" ∷ codes "allowPartialResults" ∷ codes "oplogReplay" ∷ codes "upsert" ∷ codes "arrayFilters" ∷ []
+    ∷ codes "tailable" ∷ codes "awaitData" ∷ codes "allowPartialResults" ∷ codes "oplogReplay" ∷ codes "arrayFilters" ∷ []
+
+-- those that would change what a collection or an index stores, of which the same holds
+abbrev pub of_stored : List (List ℕ)
+of_stored =
+    codes "capped" ∷ codes "timeseries" ∷ codes "validator" ∷ codes "viewOn" ∷ codes "unique" ∷ codes "sparse" ∷ codes "hidden" ∷ codes "expireAfterSeconds"
+    ∷ codes "partialFilterExpression" ∷ []
 
 -- those that a command, or a statement in its list, reads, besides its own name
 abbrev pub read_by : Name → List (List ℕ)
@@ -89,20 +101,27 @@ read_by name.Find = codes "$db" ∷ codes "filter" ∷ codes "sort" ∷ codes "p
 read_by name.Count = codes "$db" ∷ codes "query" ∷ codes "skip" ∷ codes "limit" ∷ []
 read_by name.Update = codes "$db" ∷ codes "updates" ∷ codes "ordered" ∷ []
 read_by name.Delete = codes "$db" ∷ codes "deletes" ∷ codes "ordered" ∷ []
-read_by name.Aggregate = codes "$db" ∷ codes "pipeline" ∷ []
-read_by name.FindAndModify = codes "$db" ∷ codes "query" ∷ codes "update" ∷ codes "remove" ∷ codes "new" ∷ codes "sort" ∷ codes "fields" ∷ []
+read_by name.Aggregate = codes "$db" ∷ codes "pipeline" ∷ codes "cursor" ∷ []
+read_by name.FindAndModify = codes "$db" ∷ codes "query" ∷ codes "update" ∷ codes "remove" ∷ codes "new" ∷ codes "upsert" ∷ codes "sort" ∷ codes "fields" ∷ []
 read_by name.Distinct = codes "$db" ∷ codes "key" ∷ codes "query" ∷ []
+read_by name.CreateIndexes = codes "$db" ∷ codes "indexes" ∷ []
+read_by name.GetMore = codes "$db" ∷ codes "collection" ∷ codes "batchSize" ∷ []
 read_by name.KillCursors = codes "$db" ∷ codes "cursors" ∷ []
 read_by name.Change = codes "q" ∷ codes "u" ∷ codes "multi" ∷ codes "upsert" ∷ []
 read_by name.Removal = codes "q" ∷ codes "limit" ∷ []
+read_by name.Index = codes "key" ∷ codes "name" ∷ []
 read_by n = codes "$db" ∷ []
 
 abbrev pub passed_by : Name → List (List ℕ)
 passed_by name.Hello = greeting
-passed_by name.Aggregate = codes "cursor" ∷ []
 passed_by name.ListCollections = codes "cursor" ∷ codes "nameOnly" ∷ codes "authorizedCollections" ∷ []
-passed_by name.GetMore = codes "collection" ∷ codes "batchSize" ∷ []
+passed_by name.ListDatabases = codes "nameOnly" ∷ codes "authorizedDatabases" ∷ []
+passed_by name.CreateIndexes = codes "commitQuorum" ∷ []
+passed_by name.Index = codes "v" ∷ codes "ns" ∷ codes "background" ∷ []
 passed_by n = []
+
+abbrev pub standing_of_other : List ℕ → Standing
+standing_of_other key = if is_among of_stored key then standing.Unless else standing.Unknown
 
 -- what a key is to a command
 abbrev pub standing_of : Name → List ℕ → Standing
@@ -111,7 +130,7 @@ standing_of n key =
     else if is_among (passed_by n) key || is_among passed_over key then standing.Passed
     else if is_among of_transactions key then standing.Transaction
     else if is_among not_had key then standing.Unless
-    else standing.Unknown
+    else standing_of_other key
 
 -- a value that asks for nothing
 abbrev pub is_empty : Value → Bool

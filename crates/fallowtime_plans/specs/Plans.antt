@@ -9,11 +9,14 @@ use Rattle.bson_model.specs.View.{content, items_of, view}
 use Rattle.bson_model.specs.declared.extjson.ser.Mode.TheVariants.{Relaxed}
 use Rattle.bson_store.specs.Export.{bytes_of_each}
 use Rattle.fallowtime_words.specs.declared.command.Command.TheVariants as command
+use Rattle.fallowtime_plans.specs.Batches.{AreNumbers, IsFurther, IsSize, IsSizeIn}
 use Rattle.fallowtime_plans.specs.Changes.{IsChangeOf, IsRemovalOf}
 use Rattle.fallowtime_plans.specs.Counting.{CountsIn}
 use Rattle.fallowtime_plans.specs.Fields.{AreAllowed, IsForbidden, first_key, named}
-use Rattle.fallowtime_plans.specs.Lines.{IsCount, IsFind, IsLine, IsPart, IsTruth, line_of_two}
-use Rattle.fallowtime_plans.specs.Modifying.{IsDistinct, IsFindAndModify}
+use Rattle.fallowtime_plans.specs.Finding.{FindsIn}
+use Rattle.fallowtime_plans.specs.Indexing.{ArePlainIndexes}
+use Rattle.fallowtime_plans.specs.Lines.{IsCount, IsFind, IsLine, IsPart, IsTruth, IsWhole, line_of_two}
+use Rattle.fallowtime_plans.specs.Modifying.{IsDistinct, IsFindAndModify, IsUpsert}
 use Rattle.fallowtime_plans.specs.Told as told
 use Rattle.fallowtime_plans.specs.declared.asked.Plan.{Plan}
 use Rattle.fallowtime_plans.specs.declared.asked.Plan.TheVariants as plan
@@ -59,23 +62,39 @@ AsksGroup db ms space id skip most s =
     (n : List ℕ) × (q : Members) × IsOf db (codes "aggregate") ms n × CountsIn (look_up (codes "pipeline") ms) q skip most id
     × IsLine Relaxed command.Count (line_of_two n q) s × (space ≡ namespace db n)
 
+-- a pipeline that finds is the line of `find`
+abbrev pub AsksFinding : List ℕ → Members → List ℕ → Statement → Type 0
+AsksFinding db ms space s = (n : List ℕ) × (parts : Members) × IsOf db (codes "aggregate") ms n × FindsIn (look_up (codes "pipeline") ms) parts × IsFind parts n s × (space ≡ namespace db n)
+
 abbrev pub AsksBy : Name → List ℕ → Members → List Sequence → Plan → Type 0
 AsksBy name.Hello db ms ss (plan.Told d) = content d ≡ told.hello
 AsksBy name.Ping db ms ss (plan.Told d) = content d ≡ told.ping
 AsksBy name.EndSessions db ms ss (plan.Told d) = content d ≡ told.ping
 AsksBy name.BuildInfo db ms ss (plan.Told d) = content d ≡ told.build_info
 AsksBy name.Count db ms ss (plan.One s (way.Counted skip most)) = (n : List ℕ) × IsOf db (codes "count") ms n × IsCount (look_up (codes "query") ms) n s × IsPart ms skip most
-AsksBy name.Find db ms ss (plan.One s (way.Found space)) = (n : List ℕ) × IsOf db (codes "find") ms n × IsFind ms n s × (string_bytes space ≡ namespace db n)
+AsksBy name.Find db ms ss (plan.One s (way.Found space size single)) =
+    (n : List ℕ) × IsOf db (codes "find") ms n × IsFind ms n s × (string_bytes space ≡ namespace db n) × IsSize (look_up (codes "batchSize") ms) size × IsTruth false (look_up (codes "singleBatch") ms) single
 AsksBy name.Insert db ms ss (plan.Inserts n ds ordered) = IsOf db (codes "insert") ms (string_bytes n) × AreGiven (codes "documents") ms ss (bytes_of_each ds.items) × IsTruth true (look_up (codes "ordered") ms) ordered
 AsksBy name.Update db ms ss (plan.Writes list ordered changed) = AsksWrites IsChangeOf db (codes "update") (codes "updates") ms ss list.items ordered × (changed ≡ true)
 AsksBy name.Delete db ms ss (plan.Writes list ordered changed) = AsksWrites IsRemovalOf db (codes "delete") (codes "deletes") ms ss list.items ordered × (changed ≡ false)
 AsksBy name.Aggregate db ms ss (plan.One s (way.Grouped space id skip most)) = AsksGroup db ms (string_bytes space) (view id) skip most s
+AsksBy name.Aggregate db ms ss (plan.One s (way.Found space size single)) = AsksFinding db ms (string_bytes space) s × IsSizeIn (look_up (codes "cursor") ms) size × (single ≡ false)
 AsksBy name.FindAndModify db ms ss (plan.One s (way.Modified removes)) =
-    (n : List ℕ) × IsOf db (codes "findAndModify") ms n × IsTruth false (look_up (codes "remove") ms) removes × IsFindAndModify removes ms n s
+    (n : List ℕ) × IsOf db (codes "findAndModify") ms n × IsTruth false (look_up (codes "remove") ms) removes
+    × IsTruth false (look_up (codes "upsert") ms) false × IsFindAndModify removes ms n s
+AsksBy name.FindAndModify db ms ss (plan.Upserts list) =
+    (n : List ℕ) × IsOf db (codes "findAndModify") ms n × IsTruth false (look_up (codes "remove") ms) false
+    × IsTruth false (look_up (codes "upsert") ms) true × IsUpsert ms n list.items
 AsksBy name.Distinct db ms ss (plan.One s way.Different) = (n : List ℕ) × IsOf db (codes "distinct") ms n × IsDistinct ms n s
 AsksBy name.ListCollections db ms ss (plan.One s (way.Named space)) =
     (look_up (codes "$db") ms ≡ Some (scalar (string db))) × IsLine Relaxed command.Collections no_items s × (string_bytes space ≡ namespace db (codes "$cmd.listCollections"))
-AsksBy name.KillCursors db ms ss (plan.Told d) = (ids : Items) × (look_up (codes "cursors") ms ≡ Some (array ids)) × (content d ≡ told.no_cursors ids)
+AsksBy name.Create db ms ss (plan.One s way.Made) = (n : List ℕ) × IsOf db (codes "create") ms n × IsCount None n s
+AsksBy name.CreateIndexes db ms ss (plan.Told d) = (n : List ℕ) × IsOf db (codes "createIndexes") ms n × ArePlainIndexes (look_up (codes "indexes") ms) × (content d ≡ told.indexed)
+AsksBy name.ListDatabases db ms ss (plan.Told d) = content d ≡ told.databases db
+AsksBy name.GetMore db ms ss (plan.More space id size) =
+    (n : List ℕ) × IsOf db (codes "collection") ms n × (string_bytes space ≡ namespace db n) × IsWhole (look_up (codes "getMore") ms) id × IsFurther (look_up (codes "batchSize") ms) size
+AsksBy name.KillCursors db ms ss (plan.Closes space ids) =
+    (n : List ℕ) × IsOf db (codes "killCursors") ms n × (string_bytes space ≡ namespace db n) × AreNumbers (look_up (codes "cursors") ms) ids.items
 AsksBy _ db ms ss p = ⊥
 
 -- The command with these sequences beside it asks for this; no key of it is one that keeps it from being done.

@@ -1,6 +1,6 @@
 -- Documents that commands are answered with that ask nothing of a store (MongoDB's manual, the page of each command).
-use Rattle.std.specs.Prelude.{ℕ, pos, false, true, codes}
-use Rattle.bson_base.specs.Value.{Value, Items, Members, array, boolean, double, int32, item, member, no_items, no_members, scalar, string}
+use Rattle.std.specs.Prelude.{ℕ, pos, false, true, List, codes}
+use Rattle.bson_base.specs.Value.{Value, Items, Members, array, boolean, document, double, int32, item, member, no_items, no_members, scalar, string}
 
 -- a command that was done ends its answer so: the double 1.0
 abbrev pub done : Members
@@ -31,8 +31,12 @@ build_info =
     member (codes "version") (scalar (string (codes "4.4.0"))) (member (codes "versionArray") (array (item (whole 4) (item (whole 4) (item (whole 0) (item (whole 0) no_items)))))
     (member (codes "bits") (whole 64) (member (codes "maxBsonObjectSize") (whole 16777216) done)))
 
--- none of these cursors is there ("killCursors")
-abbrev pub no_cursors : Items → Members
-no_cursors ids =
-    member (codes "cursorsKilled") (array no_items) (member (codes "cursorsNotFound") (array ids) (member (codes "cursorsAlive") (array no_items)
-    (member (codes "cursorsUnknown") (array no_items) done)))
+-- an index has no effect, so the only one is that of the `_id` ("createIndexes")
+abbrev pub indexed : Members
+indexed =
+    member (codes "numIndexesBefore") (whole 1) (member (codes "numIndexesAfter") (whole 1)
+    (member (codes "note") (scalar (string (codes "an index has no effect here"))) done))
+
+-- the only database ("listDatabases")
+abbrev pub databases : List ℕ → Members
+databases db = member (codes "databases") (array (item (document (member (codes "name") (scalar (string db)) no_members)) no_items)) done

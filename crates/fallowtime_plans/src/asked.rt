@@ -17,8 +17,9 @@ pub struct Statement {
 pub enum Way {
     /// A number: how many are passed over, and how many are counted at most.
     Counted(u64, u64),
-    /// The documents of a batch, of this collection behind its database.
-    Found(String),
+    /// Documents by batches, of this collection behind its database: how many are in the first one at most, and whether
+    /// that is the only one that is wanted.
+    Found(String, u64, bool),
     /// A number as the only document of a batch, of this collection behind its database, with an `_id`; how many are
     /// passed over, and how many are counted at most.
     Grouped(String, Bson, u64, u64),
@@ -28,6 +29,8 @@ pub enum Way {
     Different,
     /// The names of collections, as those of a batch with this name.
     Named(String),
+    /// That a collection is made, if it has no documents, and else that it is there.
+    Made,
 }
 
 /// What a command asks.
@@ -37,6 +40,13 @@ pub enum Plan {
     Told(Document),
     /// One thing, which is told in a way.
     One(Statement, Way),
+    /// More of what was found in this collection behind its database, by the number of the find; how many documents at
+    /// most.
+    More(String, i64, u64),
+    /// To let finds in this collection behind its database go, by their numbers.
+    Closes(String, Vec<i64>),
+    /// To find a document and change it; if there is none, to put one in; and then to find that, if there is a third.
+    Upserts(Vec<Statement>),
     /// To put documents into a collection; if they are ordered, none behind the first that is refused.
     Inserts(String, Vec<Vec<u8>>, bool),
     /// Changes, one after the other; if they are ordered, none behind the first that is refused. It is told, if so, how

@@ -97,7 +97,7 @@ fn replacement_by(
 }
 
 /// What a change asks of a collection: an update, or the replacement of one document. `BadValue` for that of several.
-fn change_by(
+pub(crate) fn change_by(
     alloc: Global,
     maker: &mut IdMaker,
     name: &str,

@@ -27,12 +27,12 @@ pub(crate) struct Counting {
 }
 
 /// Why a pipeline isn't had.
-fn absent(alloc: Global) -> Fault {
+pub(crate) fn absent(alloc: Global) -> Fault {
     refuse(alloc, Code::NotImplemented, "pipeline")
 }
 
 /// How many keys a document has.
-fn size_of(document: &Document) -> usize
+pub(crate) fn size_of(document: &Document) -> usize
     ensures { result ≡ size (content document.now) }
 {
     document.len()
@@ -50,7 +50,7 @@ fn only<'d>(document: &'d Document, key: &str) -> Option<&'d Bson>
 }
 
 /// The operand of a stage of this name.
-fn operand_of<'b>(stage: &'b Bson, name: &str) -> Option<&'b Bson>
+pub(crate) fn operand_of<'b>(stage: &'b Bson, name: &str) -> Option<&'b Bson>
     ensures { option_map (λ v. view v.now) result ≡ operand_of name.now (view stage.now) }
 {
     match stage {
@@ -71,7 +71,7 @@ fn integer_of(alloc: Global, value: &Bson) -> Result<i64, Fault>
 }
 
 /// A whole number from 0.
-fn number_of(alloc: Global, value: &Bson) -> Result<u64, Fault>
+pub(crate) fn number_of(alloc: Global, value: &Bson) -> Result<u64, Fault>
     ensures { IfOk result (λ n. HasNumber (view value.now) n) }
 {
     let number = integer_of(alloc, value)?;

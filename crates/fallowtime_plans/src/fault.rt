@@ -24,6 +24,8 @@ pub enum Code {
     IllegalOperation,
     /// A cursor that isn't there, as all that is found is answered at once.
     CursorNotFound,
+    /// The collection is there.
+    NamespaceExists,
     /// There is no such command.
     CommandNotFound,
     /// An update gives a document another `_id`.
@@ -54,6 +56,7 @@ impl Code {
             Code::ProtocolError => 17,
             Code::IllegalOperation => 20,
             Code::CursorNotFound => 43,
+            Code::NamespaceExists => 48,
             Code::CommandNotFound => 59,
             Code::ImmutableField => 66,
             Code::InvalidNamespace => 73,
@@ -76,6 +79,7 @@ impl Code {
             Code::ProtocolError => "ProtocolError",
             Code::IllegalOperation => "IllegalOperation",
             Code::CursorNotFound => "CursorNotFound",
+            Code::NamespaceExists => "NamespaceExists",
             Code::CommandNotFound => "CommandNotFound",
             Code::ImmutableField => "ImmutableField",
             Code::InvalidNamespace => "InvalidNamespace",

@@ -3,7 +3,7 @@
 ghost use Rattle.std.specs.Prelude.{◌≡◌, MatchResult};
 ghost use Rattle.std.specs.Option.{option_map};
 ghost use Rattle.bson_model.specs.View.{content, view};
-ghost use Rattle.fallowtime_plans.specs.Fields.{AreAllowed, IsForbidden, forbidden, forbids, is_among, is_empty, names_of, passed_by, passed_over, read_by, standing_of};
+ghost use Rattle.fallowtime_plans.specs.Fields.{AreAllowed, IsForbidden, forbidden, forbids, is_among, is_empty, names_of, of_stored, passed_by, passed_over, read_by, standing_of, standing_of_other};
 
 use crate::fault::{Code, Fault, refuse};
 use crate::name::Name;
@@ -43,9 +43,12 @@ fn is_name(name: Name, key: &str) -> bool
         Name::FindAndModify => key == "findAndModify",
         Name::Distinct => key == "distinct",
         Name::ListCollections => key == "listCollections",
+        Name::Create => key == "create",
+        Name::CreateIndexes => key == "createIndexes",
+        Name::ListDatabases => key == "listDatabases",
         Name::GetMore => key == "getMore",
         Name::KillCursors => key == "killCursors",
-        Name::Change | Name::Removal => false,
+        Name::Change | Name::Removal | Name::Index => false,
     }
 }
 
@@ -69,15 +72,18 @@ fn is_read(name: Name, key: &str) -> bool
         Name::Count => matches!(key, "$db" | "query" | "skip" | "limit"),
         Name::Update => matches!(key, "$db" | "updates" | "ordered"),
         Name::Delete => matches!(key, "$db" | "deletes" | "ordered"),
-        Name::Aggregate => matches!(key, "$db" | "pipeline"),
+        Name::Aggregate => matches!(key, "$db" | "pipeline" | "cursor"),
         Name::FindAndModify => matches!(
             key,
-            "$db" | "query" | "update" | "remove" | "new" | "sort" | "fields"
+            "$db" | "query" | "update" | "remove" | "new" | "upsert" | "sort" | "fields"
         ),
         Name::Distinct => matches!(key, "$db" | "key" | "query"),
+        Name::CreateIndexes => matches!(key, "$db" | "indexes"),
+        Name::GetMore => matches!(key, "$db" | "collection" | "batchSize"),
         Name::KillCursors => matches!(key, "$db" | "cursors"),
         Name::Change => matches!(key, "q" | "u" | "multi" | "upsert"),
         Name::Removal => matches!(key, "q" | "limit"),
+        Name::Index => matches!(key, "key" | "name"),
         _ => key == "$db",
     }
 }
@@ -98,9 +104,10 @@ fn is_passed_by(name: Name, key: &str) -> bool
                 | "speculativeAuthenticate"
                 | "loadBalanced"
         ),
-        Name::Aggregate => key == "cursor",
         Name::ListCollections => { matches!(key, "cursor" | "nameOnly" | "authorizedCollections") }
-        Name::GetMore => matches!(key, "collection" | "batchSize"),
+        Name::ListDatabases => matches!(key, "nameOnly" | "authorizedDatabases"),
+        Name::CreateIndexes => key == "commitQuorum",
+        Name::Index => matches!(key, "v" | "ns" | "background"),
         _ => false,
     }
 }
@@ -128,6 +135,35 @@ fn is_passed_over(key: &str) -> bool
     )
 }
 
+/// Whether a key would change what a collection or an index stores.
+fn is_of_stored(key: &str) -> bool
+    ensures { result ≡ is_among of_stored key.now }
+{
+    matches!(
+        key,
+        "capped"
+            | "timeseries"
+            | "validator"
+            | "viewOn"
+            | "unique"
+            | "sparse"
+            | "hidden"
+            | "expireAfterSeconds"
+            | "partialFilterExpression"
+    )
+}
+
+/// What a key is to any command that no other list has.
+fn standing_of_other(key: &str) -> Standing
+    ensures { result ≡ standing_of_other key.now }
+{
+    if is_of_stored(key) {
+        Standing::Unless
+    } else {
+        Standing::Unknown
+    }
+}
+
 /// What a key is to a command.
 fn standing_of(name: Name, key: &str) -> Standing
     ensures { result ≡ standing_of name key.now }
@@ -152,14 +188,13 @@ fn standing_of(name: Name, key: &str) -> Standing
         | "awaitData"
         | "allowPartialResults"
         | "oplogReplay"
-        | "upsert"
         | "arrayFilters" => Standing::Unless,
-        _ => Standing::Unknown,
+        _ => standing_of_other(key),
     }
 }
 
 /// Whether a value asks for nothing.
-fn is_empty(value: &Bson) -> bool
+pub(crate) fn is_empty(value: &Bson) -> bool
     ensures { result ≡ is_empty (view value.now) }
 {
     match value {

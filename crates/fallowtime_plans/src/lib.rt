@@ -2,10 +2,13 @@
 #![tactic(auto)]
 
 mod asked;
+mod batches;
 mod changes;
 mod counting;
 mod fault;
 mod fields;
+mod finding;
+mod indexing;
 mod lines;
 mod lists;
 mod modifying;

@@ -1,6 +1,6 @@
 //! The lines of a session that ask for what commands ask for, as their values.
 
-ghost use Rattle.std.specs.Prelude.{◌≡◌, IfOk, Some, codes, map, pos, string_bytes};
+ghost use Rattle.std.specs.Prelude.{◌≡◌, IfOk, Ok, Some, codes, map, pos, string_bytes};
 ghost use Rattle.std.specs.Option.{option_map};
 ghost use Rattle.json.specs.Json.{document as tree_of};
 ghost use Rattle.json.specs.Value.{items_view as items_data, value_view as data_of};
@@ -161,13 +161,31 @@ fn lasting(alloc: Global, request: Request<'_>) -> Result<Request<'static>, Faul
     }
 }
 
+/// Lets a request go. A function with more in it than this is far dearer to prove.
+fn discard(request: Request<'static>) {
+    drop(request);
+}
+
+/// The statement of a collection with this name, if there was memory for it.
+fn named(name: Result<String, AllocError>, request: Request<'static>) -> Result<Statement, Fault>
+    ensures { IfOk result (λ s. (Ok s.name ≡ name) × (s.request ≡ request.entry)) }
+{
+    match name {
+        Ok(name) => Ok(Statement { name, request }),
+        Err(_) => {
+            discard(request);
+            Err(Fault::Memory)
+        }
+    }
+}
+
 /// The statement that a question is.
 fn statement_in(alloc: Global, question: Question<'_>) -> Result<Statement, Fault>
     ensures { IfOk result (λ s. (string_bytes s.name ≡ question.entry.collection.now) × (s.request ≡ question.entry.request)) }
 {
-    let name = String::from_str(alloc, question.collection)?;
+    let name = String::from_str(alloc, question.collection);
     let request = lasting(alloc, question.request)?;
-    Ok(Statement { name, request })
+    named(name, request)
 }
 
 /// Why a line asks for nothing.

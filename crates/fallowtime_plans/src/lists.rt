@@ -15,7 +15,7 @@ use crate::lines::value_in;
 use bson_bytes::encode_document;
 use bson_frame::ErrorKind;
 use bson_message::{Sequence, documents_of};
-use bson_model::{Array, Bson, Document};
+use bson_model::{Bson, Document};
 use bson_raw::RawDocument;
 use std::alloc::{AllocError, Global};
 
@@ -99,18 +99,6 @@ fn copied(alloc: Global, documents: &[RawDocument<'_>]) -> Result<Vec<Vec<u8>>, 
         list.push(bytes)?;
     }
     Ok(list)
-}
-
-/// A copy of each value.
-pub(crate) fn copies_of(alloc: Global, items: &[Bson]) -> Result<Array, AllocError>
-    ensures { IfOk result (λ copies. map view copies.items ≡ map view items.now) }
-{
-    let mut copies = Vec::new(alloc);
-    for item in items {
-        let copy = item.try_clone(alloc)?;
-        copies.push(copy)?;
-    }
-    Ok(copies)
 }
 
 /// The bytes of each document of a sequence.

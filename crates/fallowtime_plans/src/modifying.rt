@@ -6,18 +6,22 @@ ghost use Rattle.bson_json.specs.Prints.{IsTextOf};
 ghost use Rattle.bson_model.specs.View.{content, items_of as items_view, view};
 ghost use Rattle.bson_model.specs.declared.extjson.ser.Mode.TheVariants.{Relaxed};
 ghost use Rattle.fallowtime_plans.specs.Lines.{IsLine, IsMixed, line_of_texts};
-ghost use Rattle.fallowtime_plans.specs.Modifying.{AreChangedOptions, AreFoundOptions, AsksNoMore, IsDistinct, IsFindAndModify, finder, line_with_path};
+ghost use Rattle.std.specs.Option.{option_map};
+ghost use Rattle.bson_meaning.specs.JsonReserved.{has_reserved};
+ghost use Rattle.fallowtime_plans.specs.Modifying.{AreChangedOptions, AreFoundOptions, AreTwo, AsksNoMore, IsDistinct, IsFindAndModify, IsPut, IsShown, IsShownBehind, IsUpsert, by_id, finder, id_in, id_of, line_with_path};
 ghost use Rattle.fallowtime_words.specs.declared.command.Command.TheVariants as commands;
 
 use crate::asked::Statement;
-use crate::changes::{document_in, is_update};
+use crate::changes::{change_by, document_in, is_update};
 use crate::fault::{Code, Fault, refuse};
 use crate::lines::{
     given, statement_by, statement_in_text, text_in, text_of, three_values, truth_in, value_in,
 };
-use crate::told::{changed_options, found_options};
+use crate::told::{by_id, changed_options, fields_option, found_options};
+use bson_meaning::has_reserved_below;
 use bson_model::extjson::Mode;
 use bson_model::{Bson, Document};
+use fallowtime_requests::{Otherwise, Request};
 use fallowtime_texts::IdMaker;
 use fallowtime_words::Command;
 use std::alloc::{AllocError, Global};
@@ -176,6 +180,126 @@ pub(crate) fn modify_statement(
         removed(alloc, maker, command, name)
     } else {
         changed(alloc, maker, command, name)
+    }
+}
+
+/// The change of `findAndModify` by which a document is put in, if none is found.
+fn put_statement(
+    alloc: Global,
+    maker: &mut IdMaker,
+    command: &Document,
+    name: &str,
+) -> Result<Statement, Fault>
+    ensures { IfOk result (IsPut (content command.now) name.now) }
+{
+    let query = given(alloc, command, "query")?;
+    let work = document_in(alloc, command, "update")?;
+    change_by(alloc, maker, name, query, work, false, true)
+}
+
+/// The `_id` of the document that a request puts in, if it makes one.
+fn id_of<'r>(request: &'r Request<'static>) -> Option<&'r Bson>
+    ensures { option_map (λ v. view v.now) result ≡ id_of request.now }
+{
+    match request {
+        Request::Upsert(_, _, _, Otherwise::Insert(id, _)) => Some(id),
+        _ => None,
+    }
+}
+
+/// A copy of the `_id` of the document that the last of two statements puts in.
+fn id_in(alloc: Global, statements: &[Statement]) -> Result<Option<Bson>, AllocError>
+    ensures { IfOk result (λ id. option_map view id ≡ id_in statements.now) }
+{
+    match statements {
+        [_, put] => match id_of(&put.request) {
+            Some(id) => Ok(Some(id.try_clone(alloc)?)),
+            None => Ok(None),
+        },
+        _ => Ok(None),
+    }
+}
+
+/// The query for the document with this `_id`. `BadValue` if the `_id` has a reserved key.
+fn query_by_id(alloc: Global, id: Bson) -> Result<Document, Fault>
+    ensures { IfOk result (λ d. (content d ≡ by_id (view id)) × (has_reserved (content d) ≡ false)) }
+{
+    let query = by_id(alloc, id)?;
+    if has_reserved_below(&query) {
+        return Err(refuse(alloc, Code::BadValue, "_id"));
+    }
+    Ok(query)
+}
+
+/// What finds the document with this `_id`, with the fields that `findAndModify` asks for.
+fn shown_statement(
+    alloc: Global,
+    maker: &mut IdMaker,
+    command: &Document,
+    name: &str,
+    id: Bson,
+) -> Result<Statement, Fault>
+    ensures { IfOk result (IsShown (content command.now) name.now (view id)) }
+{
+    let query = query_by_id(alloc, id)?;
+    let fields = given(alloc, command, "fields")?;
+    let options = fields_option(alloc, fields)?;
+    let values = three_values(alloc, name, query, options)?;
+    statement_by(alloc, maker, Command::Find, Mode::Relaxed, values)
+}
+
+/// The two statements of an upsert: what finds, and what puts in if none is found.
+fn two_statements(
+    alloc: Global,
+    maker: &mut IdMaker,
+    command: &Document,
+    name: &str,
+) -> Result<Vec<Statement>, Fault>
+    ensures { IfOk result (λ list. AreTwo (content command.now) name.now list.items) }
+{
+    let mut list = Vec::new(alloc);
+    let find = changed(alloc, maker, command, name)?;
+    list.push(find)?;
+    let put = put_statement(alloc, maker, command, name)?;
+    list.push(put)?;
+    Ok(list)
+}
+
+/// Statements, and what finds the document with this `_id` behind them.
+fn with_shown(
+    alloc: Global,
+    maker: &mut IdMaker,
+    command: &Document,
+    name: &str,
+    id: Bson,
+    list: Vec<Statement>,
+) -> Result<Vec<Statement>, Fault>
+    ensures { IfOk result (λ more. IsShownBehind (content command.now) name.now (view id) list.items more.items) }
+{
+    let shown = shown_statement(alloc, maker, command, name, id)?;
+    let mut list = list;
+    list.push(shown)?;
+    Ok(list)
+}
+
+/// What `findAndModify` with `upsert` asks of a collection, one after the other: to find and change a document; if there
+/// is none, to put one in; and to find that, if it is wanted as it is then.
+pub(crate) fn upsert_statements(
+    alloc: Global,
+    maker: &mut IdMaker,
+    command: &Document,
+    name: &str,
+) -> Result<Vec<Statement>, Fault>
+    ensures { IfOk result (λ list. IsUpsert (content command.now) name.now list.items) }
+{
+    let after = truth_in(alloc, command, "new", false)?;
+    let list = two_statements(alloc, maker, command, name)?;
+    if !after {
+        return Ok(list);
+    }
+    match id_in(alloc, list.as_slice())? {
+        Some(id) => with_shown(alloc, maker, command, name, id, list),
+        None => Ok(list),
     }
 }
 

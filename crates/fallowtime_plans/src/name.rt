@@ -36,6 +36,12 @@ pub enum Name {
     Distinct,
     /// The names of the collections ("listCollections").
     ListCollections,
+    /// A collection made ("create").
+    Create,
+    /// Indexes made ("createIndexes").
+    CreateIndexes,
+    /// The names of the databases ("listDatabases").
+    ListDatabases,
     /// More of what was found ("getMore").
     GetMore,
     /// What was found isn't needed any more ("killCursors").
@@ -44,6 +50,8 @@ pub enum Name {
     Change,
     /// One statement of `delete`.
     Removal,
+    /// One index of `createIndexes`.
+    Index,
 }
 
 /// The command that a document asks for whose first key this is.
@@ -64,6 +72,9 @@ pub fn name_of(key: &str) -> Option<Name>
         "findAndModify" => Some(Name::FindAndModify),
         "distinct" => Some(Name::Distinct),
         "listCollections" => Some(Name::ListCollections),
+        "create" => Some(Name::Create),
+        "createIndexes" => Some(Name::CreateIndexes),
+        "listDatabases" => Some(Name::ListDatabases),
         "getMore" => Some(Name::GetMore),
         "killCursors" => Some(Name::KillCursors),
         _ => None,

@@ -1,25 +1,31 @@
 //! What a command asks of the store.
 
-ghost use Rattle.std.specs.Prelude.{◌≡◌, [], IfOk, MatchResult, Some, codes, map, string_bytes};
-ghost use Rattle.bson_base.specs.Value.{array, look_up, scalar, string};
-ghost use Rattle.bson_model.specs.View.{content, items_of, view};
+ghost use Rattle.std.specs.Prelude.{◌≡◌, [], IfOk, MatchResult, Some, codes, false, string_bytes, true};
+ghost use Rattle.bson_base.specs.Value.{look_up, scalar, string};
+ghost use Rattle.bson_model.specs.View.{content};
+ghost use Rattle.fallowtime_plans.specs.Lines.{IsTruth};
 ghost use Rattle.fallowtime_plans.specs.Plans.{Asks, AsksBy, IsOf, IsRefused, namespace};
 ghost use Rattle.fallowtime_plans.specs.declared.name.Name.TheVariants as names;
 
 use crate::asked::{Plan, Way};
+use crate::batches::{further_in, numbers_in, size_in, size_of_cursor};
 use crate::changes::{changes_of, removals_of};
 use crate::counting::counting_in;
 use crate::fault::{Code, Fault, refuse};
 use crate::fields::allowed;
+use crate::finding::{finding_in, is_grouped};
+use crate::indexing::plain_indexes_in;
 use crate::lines::{
-    count_by, count_statement, find_statement, part_in, text_in, truth_in, value_in,
+    count_by, count_statement, find_statement, part_in, text_in, truth_in, whole_in,
 };
-use crate::lists::{copies_of, listed};
-use crate::modifying::{collections_statement, distinct_statement, modify_statement};
+use crate::lists::listed;
+use crate::modifying::{
+    collections_statement, distinct_statement, modify_statement, upsert_statements,
+};
 use crate::name::{Name, first_key, name_of};
-use crate::told::{build_info, hello, no_cursors, ping};
+use crate::told::{build_info, databases, hello, indexed, ping};
 use bson_message::Sequence;
-use bson_model::{Array, Bson, Document};
+use bson_model::Document;
 use fallowtime_texts::IdMaker;
 use std::alloc::{AllocError, Global};
 
@@ -75,8 +81,10 @@ fn find(
 {
     let name = collection_of(alloc, database, command, "find")?;
     let space = namespace(alloc, database, name)?;
+    let size = size_in(alloc, command)?;
+    let single = truth_in(alloc, command, "singleBatch", false)?;
     let statement = find_statement(alloc, maker, command, name)?;
-    Ok(Plan::One(statement, Way::Found(space)))
+    Ok(Plan::One(statement, Way::Found(space, size, single)))
 }
 
 /// What `insert` asks.
@@ -129,7 +137,7 @@ fn delete(
 }
 
 /// What `aggregate` asks, if its pipeline counts.
-fn aggregate(
+fn count_by_pipeline(
     alloc: Global,
     maker: &mut IdMaker,
     database: &str,
@@ -147,6 +155,60 @@ fn aggregate(
     ))
 }
 
+/// What `aggregate` asks, if its pipeline finds.
+fn find_by_pipeline(
+    alloc: Global,
+    maker: &mut IdMaker,
+    database: &str,
+    command: &Document,
+) -> Result<Plan, Fault>
+    ensures { IfOk result (AsksBy names.Aggregate database.now (content command.now) []) }
+{
+    let name = collection_of(alloc, database, command, "aggregate")?;
+    let parts = finding_in(alloc, command)?;
+    let space = namespace(alloc, database, name)?;
+    let size = size_of_cursor(alloc, command)?;
+    let statement = find_statement(alloc, maker, &parts, name)?;
+    Ok(Plan::One(statement, Way::Found(space, size, false)))
+}
+
+/// What `aggregate` asks: a pipeline that ends with a group counts, and any other finds.
+fn aggregate(
+    alloc: Global,
+    maker: &mut IdMaker,
+    database: &str,
+    command: &Document,
+) -> Result<Plan, Fault>
+    ensures { IfOk result (AsksBy names.Aggregate database.now (content command.now) []) }
+{
+    if is_grouped(command) {
+        count_by_pipeline(alloc, maker, database, command)
+    } else {
+        find_by_pipeline(alloc, maker, database, command)
+    }
+}
+
+/// What `findAndModify` with `upsert` asks. `BadValue` if it removes.
+fn find_or_put(
+    alloc: Global,
+    maker: &mut IdMaker,
+    database: &str,
+    command: &Document,
+    name: &str,
+    removes: bool,
+) -> Result<Plan, Fault>
+    requires of { IsOf database.now (codes "findAndModify") (content command.now) name.now }
+    requires removes { IsTruth false (look_up (codes "remove") (content command.now)) removes }
+    requires upserts { IsTruth false (look_up (codes "upsert") (content command.now)) true }
+    ensures { IfOk result (AsksBy names.FindAndModify database.now (content command.now) []) }
+{
+    if removes {
+        return Err(refuse(alloc, Code::BadValue, "upsert"));
+    }
+    let statements = upsert_statements(alloc, maker, command, name)?;
+    Ok(Plan::Upserts(statements))
+}
+
 /// What `findAndModify` asks.
 fn find_and_modify(
     alloc: Global,
@@ -158,6 +220,10 @@ fn find_and_modify(
 {
     let name = collection_of(alloc, database, command, "findAndModify")?;
     let removes = truth_in(alloc, command, "remove", false)?;
+    let upserts = truth_in(alloc, command, "upsert", false)?;
+    if upserts {
+        return find_or_put(alloc, maker, database, command, name, removes);
+    }
     let statement = modify_statement(alloc, maker, command, name, removes)?;
     Ok(Plan::One(statement, Way::Modified(removes)))
 }
@@ -201,32 +267,49 @@ fn list_collections(
     Ok(Plan::One(statement, Way::Named(space)))
 }
 
-/// A copy of an array. `BadValue` if a value is none.
-fn cursors_in(alloc: Global, value: &Bson) -> Result<Array, Fault>
-    ensures { IfOk result (λ ids. view value.now ≡ array (items_of (map view ids.items))) }
+/// What `create` asks: how many documents the collection has. `InvalidNamespace` if its name is empty.
+fn create(
+    alloc: Global,
+    maker: &mut IdMaker,
+    database: &str,
+    command: &Document,
+) -> Result<Plan, Fault>
+    ensures { IfOk result (AsksBy names.Create database.now (content command.now) []) }
 {
-    match value {
-        Bson::Array(ids) => Ok(copies_of(alloc, ids.as_slice())?),
-        _ => Err(refuse(alloc, Code::BadValue, "cursors")),
+    let name = collection_of(alloc, database, command, "create")?;
+    if name.is_empty() {
+        return Err(refuse(alloc, Code::InvalidNamespace, name));
     }
+    let statement = count_by(alloc, maker, name, Document::new(alloc))?;
+    Ok(Plan::One(statement, Way::Made))
 }
 
-/// A copy of the array under `cursors`.
-fn cursors_of(alloc: Global, command: &Document) -> Result<Array, Fault>
-    ensures { IfOk result (λ ids. look_up (codes "cursors") (content command.now) ≡ Some (array (items_of (map view ids.items)))) }
+/// What `createIndexes` asks: nothing, if all of the indexes are plain.
+fn create_indexes(alloc: Global, database: &str, command: &Document) -> Result<Plan, Fault>
+    ensures { IfOk result (AsksBy names.CreateIndexes database.now (content command.now) []) }
 {
-    match value_in(command, "cursors") {
-        Some(value) => cursors_in(alloc, value),
-        None => Err(refuse(alloc, Code::BadValue, "cursors")),
-    }
+    collection_of(alloc, database, command, "createIndexes")?;
+    plain_indexes_in(alloc, command)?;
+    Ok(Plan::Told(indexed(alloc)?))
 }
 
-/// What `killCursors` asks: nothing, as there are no cursors.
+/// What `getMore` asks.
+fn get_more(alloc: Global, database: &str, command: &Document) -> Result<Plan, Fault>
+    ensures { IfOk result (AsksBy names.GetMore database.now (content command.now) []) }
+{
+    let name = collection_of(alloc, database, command, "collection")?;
+    let id = whole_in(alloc, command, "getMore")?;
+    let size = further_in(alloc, command)?;
+    Ok(Plan::More(namespace(alloc, database, name)?, id, size))
+}
+
+/// What `killCursors` asks.
 fn kill_cursors(alloc: Global, database: &str, command: &Document) -> Result<Plan, Fault>
     ensures { IfOk result (AsksBy names.KillCursors database.now (content command.now) []) }
 {
-    let ids = cursors_of(alloc, command)?;
-    Ok(Plan::Told(no_cursors(alloc, ids)?))
+    let name = collection_of(alloc, database, command, "killCursors")?;
+    let ids = numbers_in(alloc, command)?;
+    Ok(Plan::Closes(namespace(alloc, database, name)?, ids))
 }
 
 /// What a command without sequences asks.
@@ -249,8 +332,11 @@ fn alone(
         Name::FindAndModify => find_and_modify(alloc, maker, database, command),
         Name::Distinct => distinct(alloc, maker, database, command),
         Name::ListCollections => list_collections(alloc, maker, database, command),
+        Name::Create => create(alloc, maker, database, command),
+        Name::CreateIndexes => create_indexes(alloc, database, command),
+        Name::ListDatabases => Ok(Plan::Told(databases(alloc, database)?)),
         Name::KillCursors => kill_cursors(alloc, database, command),
-        Name::GetMore => Err(refuse(alloc, Code::CursorNotFound, "getMore")),
+        Name::GetMore => get_more(alloc, database, command),
         _ => Err(refuse(alloc, Code::NotImplemented, "command")),
     }
 }

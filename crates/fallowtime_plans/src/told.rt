@@ -1,16 +1,16 @@
 //! Documents that commands are answered with that ask nothing of a store, and how any answer is made.
 
 ghost use Rattle.std.specs.Prelude.{◌≡◌, IfOk, OnOk, codes, map};
-ghost use Rattle.bson_base.specs.Value.{double, scalar};
+ghost use Rattle.bson_base.specs.Value.{double, member, no_members, scalar};
 ghost use Rattle.bson_model.specs.View.{content, items_of, pairs_of, view};
 ghost use Rattle.bson_pairs.specs.Keyed.{put as put_pair};
 ghost use Rattle.fallowtime_plans.specs.Changes.{change_options, many_option, upsert_option};
 ghost use Rattle.fallowtime_plans.specs.Lines.{options};
-ghost use Rattle.fallowtime_plans.specs.Modifying.{changed_options, found_options};
+ghost use Rattle.fallowtime_plans.specs.Modifying.{by_id, changed_options, fields_option, found_options};
 ghost use Rattle.fallowtime_plans.specs.Told as answer;
 
 use bson_base::DoubleBits;
-use bson_model::{Array, Bson, Document};
+use bson_model::{Bson, Document};
 use std::alloc::{AllocError, Global};
 
 /// The double 1.0.
@@ -168,29 +168,56 @@ pub(crate) fn changed_options(
     Ok(told)
 }
 
-/// The answer to `killCursors`: none of these cursors is there.
-pub(crate) fn no_cursors(alloc: Global, ids: Array) -> Result<Document, AllocError>
-    ensures { IfOk result (λ d. content d ≡ answer.no_cursors (items_of (map view ids.items))) }
+/// The options of the line of `find` that asks for fields alone.
+pub(crate) fn fields_option(alloc: Global, fields: Document) -> Result<Document, AllocError>
+    ensures { IfOk result (λ d. content d ≡ fields_option (content fields)) }
 {
     let mut told = Document::new(alloc);
+    put(&mut told, alloc, "fields", Bson::Document(fields))?;
+    Ok(told)
+}
+
+/// A document with one key.
+fn one_member(alloc: Global, key: &str, value: Bson) -> Result<Document, AllocError>
+    ensures { IfOk result (λ d. content d ≡ member key.now (view value) no_members) }
+{
+    let mut told = Document::new(alloc);
+    put(&mut told, alloc, key, value)?;
+    Ok(told)
+}
+
+/// The query for the document with this `_id`.
+pub(crate) fn by_id(alloc: Global, id: Bson) -> Result<Document, AllocError>
+    ensures { IfOk result (λ d. content d ≡ by_id (view id)) }
+{
+    let equal = one_member(alloc, "$eq", id)?;
+    one_member(alloc, "_id", Bson::Document(equal))
+}
+
+/// The answer to `createIndexes`: there is one index, of the `_id`, before and behind it.
+pub(crate) fn indexed(alloc: Global) -> Result<Document, AllocError>
+    ensures { IfOk result (λ d. content d ≡ answer.indexed) }
+{
+    let mut told = Document::new(alloc);
+    put(&mut told, alloc, "numIndexesBefore", Bson::Int32(1))?;
+    put(&mut told, alloc, "numIndexesAfter", Bson::Int32(1))?;
     put(
         &mut told,
         alloc,
-        "cursorsKilled",
-        Bson::Array(Vec::new(alloc)),
+        "note",
+        Bson::String(String::from_str(alloc, "an index has no effect here")?),
     )?;
-    put(&mut told, alloc, "cursorsNotFound", Bson::Array(ids))?;
-    put(
-        &mut told,
-        alloc,
-        "cursorsAlive",
-        Bson::Array(Vec::new(alloc)),
-    )?;
-    put(
-        &mut told,
-        alloc,
-        "cursorsUnknown",
-        Bson::Array(Vec::new(alloc)),
-    )?;
+    done(told, alloc)
+}
+
+/// The answer to `listDatabases`: the only one, by its name.
+pub(crate) fn databases(alloc: Global, database: &str) -> Result<Document, AllocError>
+    ensures { IfOk result (λ d. content d ≡ answer.databases database.now) }
+{
+    let name = Bson::String(String::from_str(alloc, database)?);
+    let mut items = Vec::new(alloc);
+    items.push(Bson::Document(one_member(alloc, "name", name)?))?;
+    let mut told = Document::new(alloc);
+    put(&mut told, alloc, "databases", Bson::Array(items))?;
     done(told, alloc)
 }

@@ -3,12 +3,14 @@
 ghost use Rattle.std.specs.Prelude.{◌≡◌, ◌%◌, ◌^◌};
 ghost use Rattle.bson_base.specs.Device.{CanFail, CanRefuse};
 ghost use Rattle.bson_store.specs.Calls.{store_state};
+ghost use Rattle.fallowtime_cursors.specs.Waiting.{waiting};
 ghost use Rattle.fallowtime_messages.specs.Done.{DoesAll};
 ghost use Rattle.fallowtime_wire.specs.Exchanges.{Ends, Exchanges, kind_of};
 
 use bson_base::{Sink, Source};
 use bson_message::{ReadFault, next_message};
 use bson_store::{ErrorKind, Store};
+use fallowtime_cursors::Cursors;
 use fallowtime_session::send;
 use fallowtime_texts::IdMaker;
 use sqlite::Alter;
@@ -33,12 +35,20 @@ fn number_behind(turns: u64) -> u32
     (turns % (1 << 32)) as u32
 }
 
+/// The number of the first find that waits: that of an id, so that it is another one than those of other runs, except by
+/// chance.
+fn first_number(maker: &mut IdMaker) -> u64 {
+    let [_, _, _, _, a, b, c, d, e, f, g, h] = maker.make().bytes();
+    u64::from_be_bytes([a, b, c, d, e, f, g, h]) / 2
+}
+
 /// Does what a message asks, and writes its answer, which has this number.
 ///
 /// `Memory` if there is none for any answer, and then it wasn't done; `Writer` if the write failed.
 fn exchange<S: Alter + Drop, O: Sink>(
     alloc: Global,
     store: &mut Store<S>,
+    cursors: &mut Cursors,
     maker: &mut IdMaker,
     database: &str,
     number: u32,
@@ -46,10 +56,10 @@ fn exchange<S: Alter + Drop, O: Sink>(
     output: &mut O,
 ) -> Result<(), ErrorKind>
     requires { CanRefuse (O.tally output.old) }
-    ensures { DoesAll (Exchanges database.now number message.now result (O.tally output.old)
+    ensures { DoesAll (Exchanges database.now number message.now (waiting cursors.old) (waiting cursors.new) result (O.tally output.old)
         (O.tally output.new)) (store_state S.Store store.old) (store_state S.Store store.new) }
 {
-    match fallowtime_messages::serve(alloc, store, maker, database, number, message) {
+    match fallowtime_messages::serve(alloc, store, cursors, maker, database, number, message) {
         Ok(Some(answer)) => send(output, answer.as_slice()),
         Ok(None) => Ok(()),
         Err(_) => Err(ErrorKind::Memory),
@@ -58,7 +68,7 @@ fn exchange<S: Alter + Drop, O: Sink>(
 
 /// Does what the messages of `input` ask of `store`, which is the database of this name, one after the other, and writes
 /// the answer to each on `output` before it reads the next, until the input ends. `maker` makes the `_id`s of documents
-/// that are put in without one.
+/// that are put in without one. What was found and not told yet waits from one message to the next.
 ///
 /// `Reader` if a read failed; `EndInside` if the input ends inside a message; `BadLength` if a message declares a length
 /// under 16 or over 48000000 bytes; `Writer` if a write failed; `Memory` if there is none for the bytes of a message, or
@@ -76,12 +86,14 @@ pub fn serve<S: Alter + Drop, I: Source, O: Sink>(
     ensures { DoesAll (Ends database.now result (I.feed input.old) (I.feed input.new)
         (O.tally output.old) (O.tally output.new)) (store_state S.Store store.old) (store_state S.Store store.new) }
 {
+    let mut cursors = Cursors::new(alloc, first_number(maker));
     let mut message = Vec::new(alloc);
     for turn in 0..u64::MAX {
         match next_message(input, &mut message) {
             Ok(true) => exchange(
                 alloc,
                 store,
+                &mut cursors,
                 maker,
                 database,
                 number_behind(turn),
