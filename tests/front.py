@@ -80,12 +80,10 @@ def lines_of(text):
 def checkout():
     """A checkout with the scripts of this one, and nothing to build from."""
     there = pathlib.Path(tempfile.mkdtemp(dir=FOLDER))
-    for name in [*NAMES, "install", "LICENSE"]:
+    for name in [*NAMES, "install", "LICENSE", "README.md"]:
         shutil.copy(ROOT / name, there)
-    for folder in "tools", "man", "completions":
-        shutil.copytree(ROOT / folder, there / folder, ignore=shutil.ignore_patterns("__pycache__"))
-    (there / "docs").mkdir()
-    shutil.copy(ROOT / "docs/ERRORS.md", there / "docs")
+    for folder in "tools", "man", "completions", "docs":
+        shutil.copytree(ROOT / folder, there / folder, ignore=shutil.ignore_patterns("__pycache__", "development"))
     write(there / "VERSION", "1.2.3\n")
     return there
 
@@ -290,11 +288,19 @@ for words, hint in [
     (["t.db", "aggregate", "c"], "there is no command 'aggregate'; "),
     (["t.db", "a\x1b[31mb\nc"], "there is no command 'a31mbc'; "),
     (["t.db", "rm", "c", "1"], "there is no command 'rm', but there is remove; "),
-    (["t.db", "Delete", "c", "1"], "there is no command 'Delete', but there is delete; "),
+    (["t.db", "Delete", "c", "1"], "there is no command 'Delete', but there is delete, with --many of all that are selected; "),
     (["t.db", "export"], "the words are fallowtime FILE export COLL "),
-    (["t.db", "Update", "c", "1"], "there is no command 'Update', but there is update; "),
+    (["t.db", "Update", "c", "1"], "there is no command 'Update', but there is update, with --many of all that are selected; "),
     (["t.db", "show"], "there is no command 'show', but there is collections; "),
-    (["t.db", "drop", "c"], "there is no command 'drop', but there is delete; "),
+    (["t.db", "insertOne", "c", "{}"], "there is no command 'insertOne', but there is insert; "),
+    (["t.db", "update_many", "c", "{}", "{}"], "there is no command 'update_many', but there is update, with --many of all that are selected; "),
+    (["t.db", "db.old.orders.find({})"], "there is no command 'db.old.orders.find'; "),
+    (["t.db", "db.orders.findOneAndDelete({})"], "there is no command 'db.orders.findOneAndDelete', but there is find-and-delete; "),
+    (["t.db", "db.orders.fnd", "{}"], "there is no command 'db.orders.fnd', but there is find; "),
+    (["t.db", "use", "shop"], "there is no command 'use'; "),
+    (["t.db", "mv", "c", "d"], "there is no command 'mv', but there is rename; "),
+    (["t.db", "cp", "c", "d"], "there is no command 'cp', but there is copy; "),
+    (["t.db", "rename", "c"], "the words are fallowtime FILE rename COLL NEW "),
     (["t.db", "exit"], "there is no command 'exit'; "),
     (["t.db", "quit"], "there is no command 'quit'; "),
     (["t.db", "find", "c", "--limit=2"], "an option and what it takes are two words: --limit 2"),
@@ -328,7 +334,10 @@ for words, status, advice in [
     (["advice.db", "get", "c", "65000000000000000000000a"], 1, "this ID is a text; an ObjectId is written "),
     (["advice.db", "get", "c", '{"$oid":"12"}'], 2, "an ObjectId is "),
     (["advice.db", "set", "c", "1", "k", "new"], 2, "a text has quotes of its own "),
-    (["advice.db", "set", "c", "1", "k", '{"$date":"2026"}'], 2, "a text has quotes of its own "),
+    (["advice.db", "set", "c", "1", "k", '{"$date":"2026"}'], 2, "a date is "),
+    (["advice.db", "find", "c", '{"k":{"$gt":{"$date":"2026-01-01"}}}'], 2, "a date is "),
+    (["advice.db", "insert", "c", '[{"a":1}]'], 2, "DOC is one document; "),
+    (["advice.db", "get", "c", '{"a":1}'], 1, "this ID is a document; "),
     (["advice.db", "set", "c", "1", "k", '{"$binary":"AAEC","$type":"00"}'], 2, "a binary value is "),
     (["advice.db", "set", "c", "1", "a..b", "1"], 2, "an update is an object of operators, "),
     (["advice.db", "find", "c", "k"], 2, "a query is an object, "),
@@ -338,7 +347,23 @@ for words, status, advice in [
     (["advice.db", "delete", "c", '{"a":"65000000000000000000000a"}'], 0, "nothing is found, and QUERY asks for a text of 24 digits; "),
     (["advice.db", "find", "c", '{"a":{"$oid":"65000000000000000000000a"}}'], 0, None),
     (["advice.db", "find", "c", '{"$or":[{"_id":1},{"a":"65000000000000000000000a"}]}'], 0, None),
-    (["advice.db", "find", "c", '{"a":"65000000000000000000000"}'], 0, None),
+    (["advice.db", "find", "c", '{"a":"6500000000000000000000a"}'], 0, None),
+    (["advice.db", "find", "c", '{"a":{"$gte":"2026-01-02T03:04:05Z"}}'], 0, "nothing is found, and QUERY asks for a text; a date is written "),
+    (["advice.db", "find", "c", '{"a":{"$gte":{"$date":"2026-01-02T03:04:05Z"}}}'], 0, None),
+    (["advice.db", "count", "c", '{"$or":[{"b":"x"},{"a" : "5.5"}]}'], 0, "nothing is found, and QUERY asks for a text of digits; "),
+    (["advice.db", "count", "c", '{"5":1,"a":{"$numberLong":"7"}}'], 0, None),
+    (["advice.db", "count", "c", '{"a":{"$in":["x","2026-01-02"]}}'], 0, "nothing is found, and QUERY asks for a text; "),
+    (["advice.db", "count", "c", '{"_id":{"$binary":{"base64":"1234","subType":"00"}}}'], 0, None),
+    (["advice.db", "count", "c", '{"a": {"gt": 5}}'], 0, "nothing is found, and QUERY asks for a key; "),
+    (["advice.db", "count", "c", '{"a":{"b":{"$gt":5}}}'], 0, "nothing is found, and QUERY asks for a whole document; "),
+    (["advice.db", "count", "c", '{"a":{"$elemMatch":{"b":{"$gt":5}}}}'], 0, None),
+    (["advice.db", "count", "c", '{"a":{"$gt":5,"$lt":7}}'], 0, None),
+    (["advice.db", "count", "c", '{"_id":{"$gt":"2026-01-01"}}'], 0, "nothing is found, and QUERY asks for a text; "),
+    (["advice.db", "put", "c", '{"_id":5,"a":"$set","b":["$5",{"$date":{"$numberLong":"7"}}]}'], 0, None),
+    (["advice.db", "put", "c", '{"_id":6,"a":{"$regex":"a"}}'], 0, "the document has the key $regex; "),
+    (["advice.db", "insert", "c", '{"_id":7,"$inc" : {"a":1}}'], 0, "the document has a key that begins with $, "),
+    (["advice.db", "set", "c", "5", "a", '{"$gt":1}'], 0, "the document has a key that begins with $, "),
+    (["advice.db", "replace", "c", '{"_id":9,"$set":1}'], 1, "an ID is 42 for the number and "),
 ]:
     if knows:
         found, told = told_at_terminal(PROGRAM, *words)
@@ -440,7 +465,9 @@ for words in ["t.db", "find", "long"], ["t.db", "export", "long"], ["t.db", "cou
           (0, "fallowtime" + "".join(f" <{word}>" for word in words) + "\n", True, True))
 for words in ["t.db", "find", "long"], ["t.db", "export", "long"]:
     printed = told_of_long(words, stdout="terminal")[2]
-    holds(f"{words[1]} onto the terminal", printed, "fallowtime" + "".join(f" <{word}>" for word in words) + "\r\n")
+    told = "\r\nfallowtime: what is written is BSON, for a file: " if words[1] == "export" else ""
+    wanted = "fallowtime" + "".join(f" <{word}>" for word in words) + "\r\n" + told
+    holds(f"{words[1]} onto the terminal", (printed[:len(wanted)], "0 MB read" in printed), (wanted, False))
 for words in ["t.db", "find", "c"], ["t.db", "backup", "b.db"], ["t.db", "get", "long", "1"], ["t.db", "set", "long", "1", "k", "1"]:
     holds(f"no progress of {words[1]}", told_of_long(words, stdout=subprocess.PIPE)[2], "")
 
@@ -474,12 +501,12 @@ for line, wanted in [
     (["--"], ["--help", "--version", "--explain"]),
     (["ins"], ["insert"]),
     (["hel"], ["help"]),
-    (["help", "re"], ["replace", "replace-one", "remove"]),
+    (["help", "re"], ["replace", "replace-one", "remove", "rename"]),
     (["help", "v"], ["version"]),
     (["--explain", "No"], ["NoFile", "NoFolder"]),
     (["shop.db", ""], list(ALL)),
     (["shop.db", "ex"], ["export", "export-all"]),
-    (["shop.db", "re"], ["replace", "replace-one", "remove"]),
+    (["shop.db", "re"], ["replace", "replace-one", "remove", "rename"]),
     (["shop.db", "--"], ["--wait", "--help"]),
     (["shop.db", "get", ""], ["orders", "old\\ orders", "more"]),
     (["shop.db", "get", "o"], ["orders", "old\\ orders"]),
@@ -545,7 +572,7 @@ holds("another program", run(prefix / "bin/bson_json", "--canonical"), (0, "bson
 for name in NAMES:
     holds(f"{name} --version", run(prefix / "bin" / name, "--version"), (0, f"{name} 1.2.3 (commit abcdef0, proved)\n", ""))
     status, out, errors = run(prefix / "bin" / name, "--help")
-    holds(f"{name} --help", (status, out.split()[0], "README" in out, errors), (0, name, False, ""))
+    holds(f"{name} --help", (status, out.split()[0], "first steps" in out, errors), (0, name, False, ""))
 holds("help is the program's", run(prefix / "bin/fallowtime", "help", "get"), (0, "fallowtime <help> <get>\n", ""))
 (HERE / "link").symlink_to(prefix / "bin/fallowtime")
 holds("by a link", run(HERE / "link", "f"), (0, "fallowtime <f>\n", ""))

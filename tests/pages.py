@@ -46,7 +46,8 @@ COLLECTIONS = ["a", "b", "orders", "zz", "é", "A" * 120]
 KINDS = ["plain", "deleted", "vacuum", "log", "killed", "older", "other", "trigger", "leaves", "damage", "damage", "journal"]
 # The kinds of files whose pages alone don't tell, whatever else they have.
 SLOW = {"other", "trigger", "leaves", "journal"}
-IDS = ["0", "1", "7", "59", "399", "100000", '"id3"', '{"a":5}', "0.0", "-0.0", '{"$numberLong":"7"}', '{"$oid":"%024x"}' % (3 * 7919)]
+IDS = ["0", "1", "7", "59", "399", "100000", '"id3"', '{"a":5}', "0.0", "-0.0", "7.5", '{"a":-0.0}',
+       '{"$numberLong":"7"}', '{"$oid":"%024x"}' % (3 * 7919)]
 CHANGES = ["insert", "insert", "put", "put", "replace", "set", "unset", "remove"]
 FILTERS = [[], ['{"s":"a"}'], ['{"n":{"$gte":3,"$lt":9}}'], ['{"_id":7}'], ['{"t":{"$exists":false}}'], ['{"n":{"$type":"int"}}']]
 

@@ -1,6 +1,6 @@
 #!/usr/bin/python3
 """Makes the files of a release over a program, in a checkout that is made up: whether they are the same when they are made again,
-what is in them, and whether each one can be put into an empty folder, runs README's first run there, and is gone when it is taken away.
+what is in them, and whether each one can be put into an empty folder, runs README's first run there, and is gone when it is taken away. Over the archive a new user's walk is done, too (tests/walk.py).
 
     tests/release.py FALLOWTIME
 
@@ -56,7 +56,7 @@ def everything(folder):
 def checkout():
     """A checkout with what a release is made of, as one commit, and the program as ./prove and ./quick leave it."""
     there = pathlib.Path(tempfile.mkdtemp(dir=FOLDER))
-    for name in [*NAMES, "install", "release", "VERSION", "LICENSE", "CHANGELOG.md"]:
+    for name in [*NAMES, "install", "release", "VERSION", "LICENSE", "README.md", "CHANGELOG.md"]:
         shutil.copy(ROOT / name, there)
     for folder in "tools", "docs", "man", "completions", "python":
         shutil.copytree(ROOT / folder, there / folder, ignore=shutil.ignore_patterns("__pycache__"))
@@ -85,6 +85,12 @@ def runs_first_steps(bin_folder):
     """Whether README's first run prints what the page says, with the programs of a folder and nothing of the checkout."""
     status, out, errors = run("bash", ROOT / "tests/readme.sh", bin_folder, ROOT / "README.md")
     holds(f"README's first run over {bin_folder.relative_to(FOLDER)}", (status, out if status else "", errors), (0, "", ""))
+
+
+def runs_walk(bin_folder):
+    """Whether what a new user types is answered, or told what to do, by the programs of a folder."""
+    status, out, errors = run("/usr/bin/python3", "-B", ROOT / "tests/walk.py", bin_folder)
+    holds(f"the walk over {bin_folder.relative_to(FOLDER)}", (status, out if status else "", errors), (0, "", ""))
 
 
 def runs_python(python, **more):
@@ -164,6 +170,7 @@ holds("installed", (status, errors.split("\n")[0], sorted(out.split())),
 holds("the same files", [path for path in everything(tree) if path != "install"], everything(prefix))
 shutil.rmtree(tree)
 runs_first_steps(prefix / "bin")
+runs_walk(prefix / "bin")
 for name in NAMES:
     holds(f"{name} --version", done(prefix / "bin" / name, "--version"), f"{name} {VERSION} (commit abcdef0, proved)\n")
 

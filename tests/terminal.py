@@ -129,6 +129,18 @@ for step, text in [("one line", json.dumps(ORDERS)), ("laid out", json.dumps(ORD
 for text in ["[]", " [ ]\n"]:
     (HERE / "orders.json").write_text(text)
     holds(f"an array of none: {text!r}", run("c.db", "import", "none", "orders.json"), (0, "0\n", ""))
+# Documents over several lines each are taken as well, and what is more or less than whole documents isn't.
+for step, text in [("laid out", "".join(json.dumps(order, indent=4) + "\n" for order in ORDERS)), ("with lines between", "\n\n".join(json.dumps(order, indent=0) for order in ORDERS)),
+                   ("end to end", "".join(json.dumps(order, indent=1) for order in ORDERS)), ("as on Windows", json.dumps(ORDERS[0], indent=2).replace("\n", "\r\n") + LINES.split("\n", 1)[1])]:
+    (HERE / "orders.json").write_text(text, newline="")
+    holds(f"documents, {step}", run("c.db", "import", f"documents {step}", "orders.json"), (0, "3\n", ""))
+    holds(f"what is in documents, {step}", [json.loads(line) for line in run("c.db", "find", f"documents {step}")[1].splitlines()], ORDERS)
+whole = "".join(json.dumps(order, indent=1) for order in ORDERS[:2])
+for text in [whole + more for more in ("]", "}", "{", ",", "x", '"', "[]", ',{"_id":9}')] + [whole[:-1], whole[:-2], whole.replace("}{", "},{"), '{\n"a":[1}\n]}', '{\n"a":1]\n}']:
+    (HERE / "orders.json").write_text(text)
+    status, out, errors = run("d.db", "import", "orders", "orders.json")
+    if (status, out, errors.startswith("words: line ")) != (2, "", True) or (HERE / "d.db").exists():
+        holds(f"no documents: {text}", (status, out, errors), "words: line ..")
 # What is more or less than an array of documents isn't taken, by any cut of it.
 whole = json.dumps(ORDERS[:2])
 for text in [*(whole[:end] for end in range(1, len(whole))), *(f"{whole}{more}" for more in ("]", ",", "1", '{"_id":9}', " [{}]")), "[1]", '["a"]', "[[]]",
@@ -366,7 +378,7 @@ for words, told in [(["find", "ordrs"], "there is no collection 'ordrs', but the
                     (["export", "frob"], "there is no collection 'frob'; fallowtime FILE collections lists them"), (["remove", "Orders", "1"], "there is no collection 'Orders', but there is orders"),
                     (["update", "order", "{}", '{"$set":{"a":1}}'], "there is no collection 'order', but there is orders")]:
     status, found = at_terminal("prompt.db", *words)
-    holds(f"{words}", found.splitlines()[-1], f"fallowtime: {told}")
+    holds(f"{words}", f"fallowtime: {told}" in found.splitlines() or found, True)
 for words in ["find", "orders", '{"_id":9}'], ["count", "orders"], ["put", "new", '{"_id":1}'], ["insert", "ordres", '{"_id":1}'], ["collections"]:
     holds(f"nothing is said of {words}", "there is no" in at_terminal("prompt.db", *words)[1], False)
 holds("nor without a terminal", run("prompt.db", "find", "ordrs"), (0, "", ""))

@@ -1,6 +1,7 @@
-# Makes lines of an array of JSON, an item each, for a program that reads lines. If it is more or less than one array, the last line is
-# no JSON. Spaces and ends of lines in front of an item go, and other ends of lines become spaces.
-BEGIN { level = 0 }
+# Makes lines of an array of JSON, an item each, for a program that reads lines; with -v is_bare=1 of documents one after the other, over
+# several lines each. If it is more or less than one array, or than whole documents, the last line is no JSON. Spaces and ends of lines
+# in front of an item go, and other ends of lines become spaces.
+BEGIN { level = is_bare + 0 }
 
 # Whether a piece of a text ends in a backslash that belongs to the quote behind it.
 
@@ -27,6 +28,13 @@ function part(marks,    from, i, mark) {
     for (i = 1; i <= length(marks); i++) {
         mark = substr(marks, i, 1)
         if (mark !~ /[][{},]/ || is_ended) continue
+        if (is_bare && level == 2 && mark == "}") {
+            put(substr(marks, from, i + 1 - from))
+            from = i + 1
+            level = 1
+            end_item()
+            continue
+        }
         if (mark == "," && level > 1 || (mark == "{" || mark == "[") && level++ > 0 || (mark == "}" || mark == "]") && --level > 0) continue
         put(substr(marks, from, i - from))
         from = i + 1
@@ -54,5 +62,5 @@ function part(marks,    from, i, mark) {
 
 END {
     if (is_begun) print ""
-    if (!is_ended || is_more) print "["
+    if (is_bare ? level != 1 : !is_ended || is_more) print "["
 }

@@ -159,6 +159,13 @@ choose() {
         note "sources changed since this program was built ($change): ./quick builds it anew, in minutes, ./prove proves it too"
 }
 
+# Ends as `fallowtime --explain ..` does, which says what a refusal of each of the three means.
+explain() {
+    name=fallowtime
+    choose
+    exec "$program" "$@"
+}
+
 # Prints a line of the record of the program that was found: its version, its commit, or how it was built.
 recorded() { sed -n "s/^$1 //p;/^sources\$/q" "${program%/*}/bson_store.build" 2>/dev/null; }
 

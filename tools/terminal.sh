@@ -43,10 +43,20 @@ lay_out_found() {
         set -- "$@" "$word"
     done
     # Bytes aren't laid out: the program knows no --pretty, and refuses it.
-    case $is_wanted,$is_bytes in yes,yes) run "$@" --pretty ;; ,yes) return 0 ;; esac
+    case $is_wanted,$is_bytes in yes,yes) run "$@" --pretty ;; ,yes) show_bytes "$@" ;; esac
     [ -n "$is_wanted" ] || [ -t 1 ] || return 0
     { status=$({ { "$program" "$@" 3>&- 4>&-; echo "$?" >&3; } | lay_out >&4 3>&- 4>&-; } 3>&1); } 4>&1
     exit "${status:-1}"
+}
+
+# Writes bytes to a terminal, as was asked for, and says what they are.
+show_bytes() {
+    "$program" "$@"
+    status=$?
+    [ "$status" -ne 0 ] || [ ! -t 1 ] || [ ! -t 2 ] || echo >&2
+    [ "$status" -ne 0 ] || [ ! -t 1 ] ||
+        say "what is written is BSON, for a file: fallowtime FILE export COLL > COLL.bson; without --bson, find and get print documents"
+    exit "$status"
 }
 
 # Whether the words are so many, or two more, --wait and a number, which `wait` then is.
@@ -68,21 +78,53 @@ open_input() {
     { command exec <"$1"; } 2>/dev/null || fail "$1 can't be read"
 }
 
-# Fails if standard input is a file whose first bytes say that it has no lines of JSON.
-see_lines() {
+# How the first bytes of standard input, if it is a file, say that it is packed, and what unpacks it. gzip's could begin BSON.
+packing() {
     [ -f /dev/stdin ] || return 0
-    case $(head -c 3 /dev/stdin 2>/dev/null | od -An -tx1 | tr -d ' \n') in
-    1f8b*) fail "the documents are packed by gzip: gunzip -c PACKED | fallowtime FILE import COLL --json" ;;
-    efbbbf) fail "the file begins with a byte order mark: tail -c +4 FILE.json | fallowtime FILE import COLL --json" ;;
+    case $(head -c 6 /dev/stdin 2>/dev/null | od -An -tx1 | tr -d ' \n') in
+    1f8b*) echo "gzip: gunzip -c" ;;
+    504b0304*) echo "zip: unzip -p" ;;
+    28b52ffd*) echo "zstd: zstd -dc" ;;
+    425a68*) echo "bzip2: bunzip2 -c" ;;
+    fd377a585a00) echo "xz: xz -dc" ;;
+    efbbbf*) echo mark ;;
     esac
 }
 
-# If standard input is a file whose text begins with a bracket, an array of documents, makes it lines of these.
+# What makes lines of JSON of a table, each value as a text.
+of_table="python3 -c 'import csv,json,sys; [print(json.dumps(row)) for row in csv.DictReader(sys.stdin)]' < TABLE.csv | fallowtime FILE import COLL --json"
+
+# Fails if standard input is a file that has no documents as `import` reads them, with the option that is given or without.
+see_documents() {
+    packed=$(packing)
+    case $packed,${1-} in
+    ,*) ;;
+    mark,--json) fail "the file begins with a byte order mark: tail -c +4 FILE.json | fallowtime FILE import COLL --json" ;;
+    mark, | gzip*,) ;;
+    *) fail "the documents are packed by $packed PACKED | fallowtime FILE import COLL${1:+ $1}" ;;
+    esac
+    [ -n "${1-}" ] && [ -f /dev/stdin ] || return 0
+    # (other control characters than tabs are in no table)
+    case $(head -c 4096 /dev/stdin 2>/dev/null | tr '\000\t\r' '\001, ' | sed -n 's/^ *//; /./{ p; q; }') in
+    "["* | "{"* | *[[:cntrl:]]*) ;;
+    *[,\;]*) fail "the first line is no document; of a table: $of_table" ;;
+    esac
+}
+
+# If standard input is a file whose text begins with a bracket, an array of documents, or with a document over several lines, makes it
+# lines of documents.
 open_items() {
     [ -f /dev/stdin ] || return 0
-    case $(head -c 4096 /dev/stdin 2>/dev/null | tr -d ' \t\r\n\000' | head -c 1) in "[") ;; *) return 0 ;; esac
+    case $(head -c 4096 /dev/stdin 2>/dev/null | tr '\000\t\r' '\001  ' | sed -n 's/^ *//; s/ *$//; /./{ p; q; }') in
+    "["*) is_bare=0 ;;
+    "{"*"}") return 0 ;;
+    "{"*) is_bare=1 ;;
+    *) return 0 ;;
+    esac
+    # (of a line that is longer than that the end isn't seen)
+    [ "$is_bare" = 0 ] || [ "$(head -c 4096 /dev/stdin | wc -l)" -gt 0 ] || return 0
     lines=$(mktemp) || fail "no file can be made among the temporary files"
-    tr '\000' '\001' | LC_ALL=C awk -f "$root/tools/items.awk" >"$lines" || { rm -f "$lines"; fail "$lines can't be written"; }
+    tr '\000' '\001' | LC_ALL=C awk -v is_bare="$is_bare" -f "$root/tools/items.awk" >"$lines" || { rm -f "$lines"; fail "$lines can't be written"; }
     exec <"$lines"
     rm -f "$lines"
 }
@@ -100,8 +142,10 @@ import_file() {
     *,*" --json "*) ;;
     *.json,* | *.jsonl,* | *.ndjson,*) set -- "$@" --json ;;
     esac
-    case " $* " in *" --json "*) see_lines; open_items ;; esac
-    [ ! -t 0 ] || [ ! -f "$collection" ] || fail "COLL is missing in front of the file: fallowtime FILE import COLL $collection"
+    case $file in *.csv | *.tsv) fail "a table isn't read: $of_table" ;; esac
+    case " $* " in *" --json "*) see_documents --json; open_items ;; *) see_documents ;; esac
+    # (a terminal or /dev/null is no input, and a file of that name is one)
+    [ ! -c /dev/stdin ] || [ ! -f "$collection" ] || fail "COLL is missing in front of the file: fallowtime FILE import COLL $collection"
     [ ! -t 0 ] || say "documents are read from the terminal, until Ctrl-D; import COLL FILE reads a file"
     run "$store" import "$collection" "$@"
 }

@@ -31,13 +31,16 @@ use cli_files::{
 use fallowtime_changes::{execute_in_pages, is_of_one};
 use fallowtime_commands::{Answer, Refusal, execute, export_all, look_up, print_found};
 use fallowtime_front::{Asked, Ended, asked_of, count_of, ended_of, form_of, tell};
-use fallowtime_help::{Packing, advice_on_query, packing_of, topic_of};
-use fallowtime_requests::{Request, Unread};
+use fallowtime_help::{
+    Packing, advice_on_document, advice_on_query, field_of, packing_of, topic_of,
+};
+use fallowtime_requests::{Request, Unread, question_of_words};
 use fallowtime_texts::IdMaker;
 use fallowtime_wire::database_of;
 use fallowtime_words::{Argument, Command, Task, Words, read_words};
+use json::Scratch;
 use sqlite::{Alter, Connection, FileFrom, Files, Start, Unknown};
-use std::alloc::Global;
+use std::alloc::{AllocError, Global};
 use std::hash::{BuildHasher, RandomState};
 use std::io::IsTerminal;
 use std::time::SystemTime;
@@ -623,16 +626,109 @@ fn point_at_collection(rt: &HostRuntime, words: &Words<'_>) -> bool {
     }
 }
 
-/// Says that nothing answers the query of a command, if it asks for a text where an ObjectId may be meant.
+/// How many documents of a collection answer a query, if the pages of the file tell it.
+fn count_in(rt: &HostRuntime, file: &str, asked: &[String]) -> Option<u64> {
+    let mut maker = IdMaker::new(0, 0);
+    let mut scratch = Scratch::new(rt.alloc());
+    let read = question_of_words(rt.alloc(), Command::Count, asked, &mut maker, &mut scratch);
+    let question = read.ok()?;
+    let found = found_in(rt, file, question.collection, &question.request);
+    // (let go here, as each arm that does it is dear to prove)
+    drop(question);
+    match found {
+        Some(Answer::Number(count)) => Some(count),
+        _ => None,
+    }
+}
+
+/// The words of a question for the documents of a collection that have a field, which is written as a query has it.
+fn words_for_field(
+    rt: &HostRuntime,
+    collection: &str,
+    field: &str,
+) -> Result<Vec<String>, AllocError> {
+    let mut query = String::from_str(rt.alloc(), "{\"")?;
+    query.push_str(field)?;
+    query.push_str("\":{\"$exists\":true}}")?;
+    let mut words = Vec::new(rt.alloc());
+    words.push(String::from_str(rt.alloc(), collection)?)?;
+    words.push(query)?;
+    Ok(words)
+}
+
+/// Says that no document has the field about which a query asks first, if so.
+fn point_at_field(rt: &HostRuntime, file: &str, collection: &str, query: &str) {
+    if let Some(field) = field_of(query) {
+        point_at_absent(rt, file, collection, field);
+    }
+}
+
+/// Says that no document has a field, if so.
+fn point_at_absent(rt: &HostRuntime, file: &str, collection: &str, field: &str) {
+    let Ok(words) = words_for_field(rt, collection, field) else {
+        return;
+    };
+    if count_in(rt, file, words.as_slice()) == Some(0) {
+        help::hint_at_field(rt, field);
+    }
+}
+
+/// Says that no document has the path of `distinct`, if so.
+fn point_at_path(rt: &HostRuntime, words: &Words<'_>) {
+    if !rt.stdout().is_terminal() {
+        return;
+    }
+    match (words.command, words.arguments) {
+        (Command::Distinct, [collection, path, ..]) => {
+            point_at_absent(rt, words.file, collection.as_str(), path.as_str());
+        }
+        _ => {}
+    }
+}
+
+/// Says that nothing answers the query of a command, and what may be meant by it.
 fn point_at_query(rt: &HostRuntime, words: &Words<'_>) {
     let Some((query, question)) = count_of(rt.alloc(), words) else {
         return;
     };
-    let Some(advice) = advice_on_query(query) else {
+    let advice = advice_on_query(query);
+    if advice.is_none() && !rt.stdout().is_terminal() {
+        return;
+    }
+    let found = found_in(rt, words.file, question.collection, &question.request);
+    if !matches!(found, Some(Answer::Number(0))) {
+        return;
+    }
+    match advice {
+        Some(advice) => help::hint_at_query(rt, advice),
+        None => point_at_field(rt, words.file, question.collection, query),
+    }
+}
+
+/// The document or the value that the words put in; none if they put in none.
+fn kept_of<'w>(words: &Words<'w>) -> Option<&'w str> {
+    let place = match words.command.signature().arguments {
+        [_, Argument::Document, ..] => 1,
+        [_, _, Argument::Document, ..] => 2,
+        [_, _, _, Argument::Value, ..] => 3,
+        _ => return None,
+    };
+    let word = words.arguments.get(place)?;
+    Some(word.as_str())
+}
+
+/// Says at a terminal that what was put in has the key of an operator, if so.
+pub fn point_at_kept(rt: &HostRuntime, words: &[String]) {
+    if !rt.stderr().is_terminal() {
+        return;
+    }
+    let Some(Task::Command(words)) = read_words(words) else {
         return;
     };
-    let found = found_in(rt, words.file, question.collection, &question.request);
-    if let Some(Answer::Number(0)) = found {
+    let Some(kept) = kept_of(&words) else {
+        return;
+    };
+    if let Some(advice) = advice_on_document(kept) {
         help::hint_at_query(rt, advice);
     }
 }
@@ -645,6 +741,7 @@ pub fn point_at_meant(rt: &HostRuntime, words: &[String]) {
     if let Some(Task::Command(words)) = read_words(words) {
         if !point_at_collection(rt, &words) {
             point_at_query(rt, &words);
+            point_at_path(rt, &words);
         }
     }
 }

@@ -94,7 +94,12 @@ pub fn hint_at_collection(rt: &HostRuntime, names: &[String], name: &str) -> boo
     }
 }
 
-/// Says what helps if nothing answers a query.
+/// Says that nothing answers a query, as no document has a field.
+pub fn hint_at_field(rt: &HostRuntime, field: &str) {
+    note(rt, "", fallowtime_help::hint_at_field(rt.alloc(), field));
+}
+
+/// Says what helps if nothing answers a query, or what is said of a document that was put in.
 pub fn hint_at_query(rt: &HostRuntime, advice: &str) {
     note(rt, advice, Ok(String::new(rt.alloc())));
 }

@@ -153,6 +153,9 @@ fn run_by_words(rt: &HostRuntime, words: &[String]) -> u8 {
     } else {
         fallowtime::point_at_meant(rt, words);
     }
+    if status == 0 {
+        fallowtime::point_at_kept(rt, words);
+    }
     status
 }
 

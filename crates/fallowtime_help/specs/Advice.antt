@@ -4,12 +4,24 @@ use Rattle.std.specs.List.{list_all}
 use Rattle.std.specs.Str.{bytes_eq}
 use Rattle.fallowtime_help.specs.declared.advice.Advice.{Advice}
 
--- how what gzip packs begins, by deflate, and how an archive of mongodump does
+-- how what gzip packs begins, by deflate, how an archive of mongodump does, and what zip, zstd, bzip2 and xz pack
 abbrev pub gzip_front : List ℕ
 gzip_front = 31 ∷ 139 ∷ 8 ∷ []
 
 abbrev pub archive_front : List ℕ
 archive_front = 109 ∷ 226 ∷ 153 ∷ 129 ∷ []
+
+abbrev pub zip_front : List ℕ
+zip_front = 80 ∷ 75 ∷ 3 ∷ 4 ∷ []
+
+abbrev pub zstd_front : List ℕ
+zstd_front = 40 ∷ 181 ∷ 47 ∷ 253 ∷ []
+
+abbrev pub bzip2_front : List ℕ
+bzip2_front = 66 ∷ 90 ∷ 104 ∷ []
+
+abbrev pub xz_front : List ℕ
+xz_front = 253 ∷ 55 ∷ 122 ∷ 88 ∷ 90 ∷ 0 ∷ []
 
 -- a hexadecimal digit
 abbrev pub is_hex : ℕ → Bool

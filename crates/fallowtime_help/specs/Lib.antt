@@ -1,4 +1,5 @@
 pub mod Advice
+pub mod Asked
 pub mod Explaining
 pub mod Hints
 pub mod Nearest

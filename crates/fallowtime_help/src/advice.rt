@@ -19,10 +19,6 @@ const NOT_FOUND: &str = "NotFound";
 /// What helps if an ID that is a text looks like an ObjectId.
 pub(crate) const OBJECT_ID: &str = "this ID is a text; an ObjectId is written '{\"$oid\":\"..\"}'";
 
-/// What helps if a query asks for a text that looks like an ObjectId.
-const OBJECT_ID_ASKED: &str =
-    "nothing is found, and QUERY asks for a text of 24 digits; an ObjectId is written {\"$oid\":\"..\"}";
-
 /// What helps after the commonest refusals; those of a FILE that can't be had say it themselves.
 pub(crate) const ADVICE: [Advice; 15] = [
     Advice {
@@ -67,7 +63,7 @@ pub(crate) const ADVICE: [Advice; 15] = [
     },
     Advice {
         kind: "line",
-        text: "each line is a whole document, {..}: jq -c . makes such lines of documents over several, jq -c '.[]' of an array; what gzip packed is unpacked first",
+        text: "each line is a whole document, {..}: jq -c . makes such lines of documents over several, jq -c '.[]' of an array; BSON goes in without --json; what is packed is unpacked first, a byte order mark goes, and of a table (CSV) lines are made first",
     },
     Advice {
         kind: "update",
@@ -89,11 +85,25 @@ pub(crate) const ADVICE: [Advice; 15] = [
 
 /// What helps if the bytes that `import` reads are no BSON.
 const STREAM: &str =
-    "import reads BSON: for lines of JSON say --json; what gzip or mongodump --archive packed is unpacked first";
+    "import reads BSON: for lines of JSON say --json; what is packed, as by gzip or mongodump --archive, is unpacked first";
 
 /// What helps if a text has the form of a binary value from before Extended JSON v2.
 const OLD_BINARY: &str =
     "a binary value is '{\"$binary\":{\"base64\":\"AAEC\",\"subType\":\"00\"}}'; the form with $type behind it isn't read";
+
+/// What helps if a date has another form than those that are read.
+const DATE: &str =
+    "a date is '{\"$date\":\"2026-01-02T03:04:05Z\"}', with its zone, or in milliseconds '{\"$date\":1767323045000}'";
+
+/// What helps if a pattern isn't one that is taken.
+const PATTERN: &str =
+    "$regex takes a fixed beginning alone, {\"$regex\":\"^Ad\"}, and no options; find and jq behind it search in texts";
+
+/// What helps if an array is in the place of a document.
+const ARRAY: &str = "DOC is one document; import COLL FILE.json takes an array of them";
+
+/// What helps if a query is in the place of an ID.
+const QUERY_AS_ID: &str = "this ID is a document; find, update and delete take a QUERY";
 
 /// Whether a byte is a hexadecimal digit.
 fn is_digit(byte: u8) -> bool
@@ -115,7 +125,7 @@ fn are_digits(bytes: &[u8]) -> bool
 }
 
 /// Whether a word has the digits of an ObjectId.
-fn is_object_id(word: &str) -> bool
+pub(crate) fn is_object_id(word: &str) -> bool
     ensures { IsTrue result ↔ IsObjectId word.now }
 {
     word.len() == 24 && are_digits(word.as_bytes())
@@ -150,23 +160,53 @@ fn advice_on_id(words: &[String]) -> Option<&'static str>
     if has_object_id(words) {
         return Some(OBJECT_ID);
     }
+    if begins_second(words, "{\"") && !begins_second(words, "{\"$") && !have(words, "\"_id\"") {
+        return Some(QUERY_AS_ID);
+    }
     advice_in(&ADVICE, NOT_FOUND)
 }
 
-/// Whether one of the words has a binary value in the form from before Extended JSON v2.
-fn has_old_binary(words: &[String]) -> bool {
+/// Whether one of the words has a text in it.
+fn have(words: &[String], text: &str) -> bool {
     for word in words {
-        if word.as_str().contains("\"$binary\"") && word.as_str().contains("\"$type\"") {
+        if word.as_str().contains(text) {
             return true;
         }
     }
     false
 }
 
-/// What mostly helps after a refusal of this kind, which isn't that of an `_id`, by what the words have in them.
-fn advice_by_words(kind: &str, words: &[String]) -> Option<&'static str> {
-    if matches!(kind, "JSON" | "query" | "update") && has_old_binary(words) {
+/// Whether the second of the words begins so.
+fn begins_second(words: &[String], front: &str) -> bool {
+    match words {
+        [_, word, ..] => word.as_str().starts_with(front),
+        _ => false,
+    }
+}
+
+/// What helps if words can't be read, by what they have in them.
+fn advice_by_words(words: &[String]) -> Option<&'static str> {
+    if have(words, "\"$binary\"") && have(words, "\"$type\"") {
         return Some(OLD_BINARY);
+    }
+    if have(words, "\"$date\"") {
+        return Some(DATE);
+    }
+    None
+}
+
+/// What mostly helps after a refusal of this kind, which isn't that of an `_id`.
+fn advice_by_kind(kind: &str, words: &[String]) -> Option<&'static str> {
+    if matches!(kind, "JSON" | "query" | "update") {
+        if let Some(advice) = advice_by_words(words) {
+            return Some(advice);
+        }
+    }
+    if kind == "query" && have(words, "\"$regex\"") {
+        return Some(PATTERN);
+    }
+    if kind == "JSON" && begins_second(words, "[") {
+        return Some(ARRAY);
     }
     advice_in(&ADVICE, kind)
 }
@@ -179,20 +219,5 @@ pub fn advice_for(kind: &str, words: &[String]) -> Option<&'static str>
     if kind == NOT_FOUND {
         return advice_on_id(words);
     }
-    advice_by_words(kind, words)
-}
-
-/// What helps if no document answers a query, in a line: if it asks for a text, in quotes, that has the digits of an
-/// ObjectId and isn't under `$oid`.
-pub fn advice_on_query(query: &str) -> Option<&'static str> {
-    let mut under = "";
-    let mut front = "";
-    for piece in query.split('"') {
-        if is_object_id(piece) && under != "$oid" {
-            return Some(OBJECT_ID_ASKED);
-        }
-        under = front;
-        front = piece;
-    }
-    None
+    advice_by_kind(kind, words)
 }

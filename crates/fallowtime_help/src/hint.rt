@@ -1,12 +1,12 @@
 //! What is wrong with words that are no line of the table.
 
-ghost use Rattle.std.specs.Prelude.{◌≡◌, ◌↔◌, ◌∷◌, ◌++◌, [], ℕ, List, IfOk, IsTrue, None, OnOk, Option, Some, codes, map, string_bytes, take};
-ghost use Rattle.std.specs.List.{filter, list_any};
+ghost use Rattle.std.specs.Prelude.{◌≡◌, ◌↔◌, ◌==◌, ◌∷◌, ◌++◌, [], ℕ, List, IfOk, IsTrue, None, OnOk, Option, Some, codes, map, string_bytes, take};
+ghost use Rattle.std.specs.List.{after_first, before_first, filter, list_any};
 ghost use Rattle.std.specs.Str.{str_to_ascii_lowercase};
 ghost use Rattle.fallowtime_words.specs.Commands.{BeginsWith, command_of};
 ghost use Rattle.fallowtime_words.specs.Words.{IsFile};
 ghost use Rattle.fallowtime_words.specs.declared.command.Command.{Command as Named};
-ghost use Rattle.fallowtime_help.specs.Hints.{HintsAt, HintsBehind, IsMeant, called_in, is_equals, is_joined, is_shown, meant_text, unknown_text};
+ghost use Rattle.fallowtime_help.specs.Hints.{HintsAt, HintsBehind, IsMeant, called_in, called_name, is_equals, is_joined, is_shown, many_text, meant_text, unknown_text};
 ghost use Rattle.fallowtime_help.specs.Usage.{line_text};
 
 use crate::nearest::nearest;
@@ -24,7 +24,7 @@ pub(crate) struct OtherName {
 }
 
 /// How a command is called elsewhere.
-pub(crate) const OTHER_NAMES: [OtherName; 13] = [
+pub(crate) const OTHER_NAMES: [OtherName; 47] = [
     OtherName {
         name: "rm",
         command: Some(Command::Remove),
@@ -58,6 +58,10 @@ pub(crate) const OTHER_NAMES: [OtherName; 13] = [
         command: Some(Command::Collections),
     },
     OtherName {
+        name: "list",
+        command: Some(Command::Collections),
+    },
+    OtherName {
         name: "load",
         command: Some(Command::Import),
     },
@@ -66,8 +70,140 @@ pub(crate) const OTHER_NAMES: [OtherName; 13] = [
         command: Some(Command::Export),
     },
     OtherName {
-        name: "drop",
+        name: "mv",
+        command: Some(Command::Rename),
+    },
+    OtherName {
+        name: "cp",
+        command: Some(Command::Copy),
+    },
+    OtherName {
+        name: "renamecollection",
+        command: Some(Command::Rename),
+    },
+    OtherName {
+        name: "insertone",
+        command: Some(Command::Insert),
+    },
+    OtherName {
+        name: "insert_one",
+        command: Some(Command::Insert),
+    },
+    OtherName {
+        name: "insertmany",
+        command: Some(Command::Import),
+    },
+    OtherName {
+        name: "insert_many",
+        command: Some(Command::Import),
+    },
+    OtherName {
+        name: "updateone",
+        command: Some(Command::Update),
+    },
+    OtherName {
+        name: "update_one",
+        command: Some(Command::Update),
+    },
+    OtherName {
+        name: "updatemany",
+        command: Some(Command::Update),
+    },
+    OtherName {
+        name: "update_many",
+        command: Some(Command::Update),
+    },
+    OtherName {
+        name: "deleteone",
         command: Some(Command::Delete),
+    },
+    OtherName {
+        name: "delete_one",
+        command: Some(Command::Delete),
+    },
+    OtherName {
+        name: "deletemany",
+        command: Some(Command::Delete),
+    },
+    OtherName {
+        name: "delete_many",
+        command: Some(Command::Delete),
+    },
+    OtherName {
+        name: "replaceone",
+        command: Some(Command::ReplaceOne),
+    },
+    OtherName {
+        name: "findone",
+        command: Some(Command::Find),
+    },
+    OtherName {
+        name: "find_one",
+        command: Some(Command::Find),
+    },
+    OtherName {
+        name: "countdocuments",
+        command: Some(Command::Count),
+    },
+    OtherName {
+        name: "count_documents",
+        command: Some(Command::Count),
+    },
+    OtherName {
+        name: "findoneandupdate",
+        command: Some(Command::FindAndUpdate),
+    },
+    OtherName {
+        name: "find_one_and_update",
+        command: Some(Command::FindAndUpdate),
+    },
+    OtherName {
+        name: "findandmodify",
+        command: Some(Command::FindAndUpdate),
+    },
+    OtherName {
+        name: "findoneandreplace",
+        command: Some(Command::FindAndReplace),
+    },
+    OtherName {
+        name: "find_one_and_replace",
+        command: Some(Command::FindAndReplace),
+    },
+    OtherName {
+        name: "findoneanddelete",
+        command: Some(Command::FindAndDelete),
+    },
+    OtherName {
+        name: "find_one_and_delete",
+        command: Some(Command::FindAndDelete),
+    },
+    OtherName {
+        name: "createindex",
+        command: Some(Command::Index),
+    },
+    OtherName {
+        name: "create_index",
+        command: Some(Command::Index),
+    },
+    OtherName {
+        name: "mongoimport",
+        command: Some(Command::Import),
+    },
+    OtherName {
+        name: "mongoexport",
+        command: Some(Command::Find),
+    },
+    OtherName {
+        name: "mongorestore",
+        command: Some(Command::ImportAll),
+    },
+    OtherName {
+        name: "mongodump",
+        command: Some(Command::ExportAll),
+    },
+    OtherName {
+        name: "use",
+        command: None,
     },
     OtherName {
         name: "exit",
@@ -93,6 +229,9 @@ pub(crate) const JOINED: &str = "an option and what it takes are two words: --li
 /// What is wrong with other words.
 pub(crate) const GENERAL: &str =
     "the words are FILE COMMAND ..; fallowtime help lists the commands";
+
+/// What is said of a command that changes the first document that is selected, or all.
+pub(crate) const MANY: &str = ", with --many of all that are selected";
 
 /// How many bytes of a word are shown.
 const SHOWN: usize = 40;
@@ -139,14 +278,63 @@ fn called(names: &[OtherName], word: &str) -> Option<Option<Command>>
     None
 }
 
-/// The command that is meant by a word in small letters, if there is one: the one that is called so elsewhere, or else the
-/// one that is called most like it.
-fn meant(word: &str) -> Option<Command>
-    ensures { IsMeant word.now result }
+/// What is before the first bracket.
+fn before_bracket(word: &str) -> &str
+    ensures { result.now ≡ before_first (λ b. b == 40) word.now }
 {
-    match called(&OTHER_NAMES, word) {
+    match word.split_once('(') {
+        Some((front, _)) => front,
+        None => word,
+    }
+}
+
+/// What is behind the first dot; nothing if there is none.
+fn behind_dot(word: &str) -> &str
+    ensures { result.now ≡ after_first (λ b. b == 46) word.now }
+{
+    match word.split_once('.') {
+        Some((_, rest)) => rest,
+        None => "",
+    }
+}
+
+/// What mongosh calls, as `find` of `db.orders.find({})`; the word if it is no such call.
+fn call_in(word: &str) -> &str
+    ensures { result.now ≡ called_name word.now }
+{
+    let call = behind_dot(behind_dot(word));
+    if call.is_empty() {
+        return word;
+    }
+    before_bracket(call)
+}
+
+/// The command that is meant by a name in small letters, if there is one: the one that is called so elsewhere, or else the
+/// one that is called most like it.
+fn meant(name: &str) -> Option<Command>
+    ensures { IsMeant name.now result }
+{
+    match called(&OTHER_NAMES, name) {
         Some(meant) => meant,
-        None => nearest(word),
+        None => nearest(name),
+    }
+}
+
+/// The same of a word, which may be a call of mongosh, `db.orders.find({})`.
+fn meant_by_call(word: &str) -> Option<Command>
+    ensures { IsMeant (called_name word.now) result }
+{
+    meant(call_in(word))
+}
+
+/// What is said of a command that changes one document or many.
+fn many_of(command: Command) -> &'static str
+    ensures { result.now ≡ many_text command }
+{
+    if command.signature().options.many {
+        MANY
+    } else {
+        ""
     }
 }
 
@@ -157,7 +345,8 @@ fn push_meant(text: &mut String, meant: Option<Command>) -> Result<(), AllocErro
     match meant {
         Some(command) => {
             text.push_str(", but there is ")?;
-            text.push_str(command.signature().name)
+            text.push_str(command.signature().name)?;
+            text.push_str(many_of(command))
         }
         None => Ok(()),
     }
@@ -177,11 +366,11 @@ fn told(alloc: Global, word: &str, meant: Option<Command>) -> Result<String, All
 
 /// That a word is no command, and which one is meant, by its small letters.
 fn unknown(alloc: Global, word: &str) -> Result<String, AllocError>
-    ensures { IfOk result (λ t. (meant : Option Named) × IsMeant (str_to_ascii_lowercase word.now) meant
+    ensures { IfOk result (λ t. (meant : Option Named) × IsMeant (called_name (str_to_ascii_lowercase word.now)) meant
         × (string_bytes t ≡ unknown_text word.now meant)) }
 {
     let small = word.to_ascii_lowercase(alloc)?;
-    told(alloc, word, meant(small.as_str()))
+    told(alloc, word, meant_by_call(small.as_str()))
 }
 
 /// The words of a command, behind what stands in front of them.

@@ -379,13 +379,13 @@ const NO_ID: &str =
 const DUPLICATE_ID: &str =
     "  `DuplicateId`: the collection has a document with this `_id`, or the input of `import` has two, and then none went in.
   `put` puts a document in the place of the one that is there. The kinds of numbers are different `_id`s, see
-  USING.md.
+  USING.md. Of `rename` and `copy`: NEW has a document already; `drop` removes it.
 ";
 
 const NOT_FOUND: &str =
-    "  `NotFound`: the collection has no document with this `_id`. A text is no number and no ObjectId: ID is `42` for the
-  number, `'\"42\"'` for the text, `'{\"$oid\":\"65..\"}'` for an ObjectId. `fallowtime shop.db find orders | head -n 1` shows
-  one.
+    "  `NotFound`: the collection has no document with this `_id`, or, of `rename` and `copy`, no document at all. A text is
+  no number and no ObjectId: ID is `42` for the number, `'\"42\"'` for the text, `'{\"$oid\":\"65..\"}'` for an ObjectId.
+  `fallowtime shop.db find orders | head -n 1` shows one, and `collections` which collections there are.
 ";
 
 const BAD_NAME: &str = "  `BadName`: the name of the collection is empty, or has a 00.

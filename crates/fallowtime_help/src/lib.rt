@@ -3,6 +3,7 @@
 #![tactic(auto)]
 
 mod advice;
+mod asked;
 mod explaining;
 mod help;
 mod hint;
@@ -14,10 +15,11 @@ mod texts;
 mod topic;
 mod usage;
 
-pub use advice::{advice_for, advice_on_query};
+pub use advice::advice_for;
+pub use asked::{advice_on_document, advice_on_query, field_of};
 pub use explaining::kind_names;
 pub use help::about;
 pub use hint::hint_of;
-pub use names::hint_at_name;
+pub use names::{hint_at_field, hint_at_name};
 pub use packing::{Packing, advice_on_packed, packing_of};
 pub use topic::{Topic, topic_of};

@@ -2,8 +2,8 @@
 
 ghost use Rattle.std.specs.Prelude.{◌≡◌, ◌↔◌, Some};
 ghost use Rattle.fallowtime_words.specs.Commands.{BeginsWith};
-ghost use Rattle.fallowtime_help.specs.Advice.{archive_front, gzip_front};
-ghost use Rattle.fallowtime_help.specs.declared.packing.Packing.TheVariants.{Archive, Gzip};
+ghost use Rattle.fallowtime_help.specs.Advice.{archive_front, bzip2_front, gzip_front, xz_front, zip_front, zstd_front};
+ghost use Rattle.fallowtime_help.specs.declared.packing.Packing.TheVariants.{Archive, Bzip2, Gzip, Xz, Zip, Zstd};
 
 /// What packs documents.
 #[derive(Clone, Copy, Debug, PartialEq, Eq)]
@@ -12,16 +12,32 @@ pub enum Packing {
     Gzip,
     /// `mongodump --archive`.
     Archive,
+    /// zip.
+    Zip,
+    /// zstd.
+    Zstd,
+    /// bzip2.
+    Bzip2,
+    /// xz.
+    Xz,
 }
 
 /// What packed these bytes, if the first of them say so.
 pub fn packing_of(bytes: &[u8]) -> Option<Packing>
     ensures gzip { (result ≡ Some Gzip) ↔ BeginsWith gzip_front bytes.now }
     ensures archive { (result ≡ Some Archive) ↔ BeginsWith archive_front bytes.now }
+    ensures zip { (result ≡ Some Zip) ↔ BeginsWith zip_front bytes.now }
+    ensures zstd { (result ≡ Some Zstd) ↔ BeginsWith zstd_front bytes.now }
+    ensures bzip2 { (result ≡ Some Bzip2) ↔ BeginsWith bzip2_front bytes.now }
+    ensures xz { (result ≡ Some Xz) ↔ BeginsWith xz_front bytes.now }
 {
     match bytes {
         [31, 139, 8, ..] => Some(Packing::Gzip),
         [109, 226, 153, 129, ..] => Some(Packing::Archive),
+        [80, 75, 3, 4, ..] => Some(Packing::Zip),
+        [40, 181, 47, 253, ..] => Some(Packing::Zstd),
+        [66, 90, 104, ..] => Some(Packing::Bzip2),
+        [253, 55, 122, 88, 90, 0, ..] => Some(Packing::Xz),
         _ => None,
     }
 }
@@ -44,6 +60,18 @@ pub fn advice_on_packed(kind: &str, packing: Option<Packing>) -> Option<&'static
             Some(
                 "this is an archive of mongodump: without --archive it makes a folder, for import-all",
             )
+        }
+        Packing::Zip => {
+            Some("these bytes are packed by zip: unzip -p PACKED | fallowtime FILE import COLL")
+        }
+        Packing::Zstd => {
+            Some("these bytes are packed by zstd: zstd -dc PACKED | fallowtime FILE import COLL")
+        }
+        Packing::Bzip2 => {
+            Some("these bytes are packed by bzip2: bunzip2 -c PACKED | fallowtime FILE import COLL")
+        }
+        Packing::Xz => {
+            Some("these bytes are packed by xz: xz -dc PACKED | fallowtime FILE import COLL")
         }
     }
 }

@@ -389,7 +389,8 @@ that isn't there is made.
 
   --json           reads lines of Extended JSON, a document each, which without
                    an _id gets an ObjectId; a line of no bytes is left out.
-                   INPUT may be an array of documents, too
+                   A file may be an array of documents, or have each over several
+                   lines, too
   --wait SECONDS   waits so long if another process has FILE; else 5
 
     fallowtime shop.db import orders orders.bson
@@ -409,6 +410,45 @@ the order in which they came.
     fallowtime shop.db export orders | fallowtime copy.db import orders
 
 May be refused: NoFile, BadName, Writer.
+";
+
+const DROP: &str = "
+Removes the collection COLL with all its documents, in one step, and prints how
+many they were: 0 if there is no such collection.
+
+  --wait SECONDS   waits so long if another process has FILE; else 5
+
+    fallowtime shop.db drop orders
+    fallowtime shop.db drop '2024 orders' --wait 60
+
+May be refused: NoFile, BadName.
+";
+
+const RENAME: &str = "
+Gives the collection COLL the name NEW, in one step, and prints how many
+documents it has. They keep their order. NEW must not have a document yet.
+
+  --wait SECONDS   waits so long if another process has FILE; else 5
+
+    fallowtime shop.db rename orders orders-2024
+    fallowtime shop.db rename staged orders --wait 60
+
+May be refused: NotFound, if COLL has no document; DuplicateId, if NEW has one;
+NoFile, BadName, Places.
+";
+
+const COPY: &str = "
+Puts the documents of the collection COLL into the collection NEW, too, in one
+step and in their order, and prints how many they are. NEW must not have a
+document yet.
+
+  --wait SECONDS   waits so long if another process has FILE; else 5
+
+    fallowtime shop.db copy orders orders-before
+    fallowtime shop.db copy orders trial --wait 60
+
+May be refused: NotFound, if COLL has no document; DuplicateId, if NEW has one;
+NoFile, BadName, Places.
 ";
 
 const COLLECTIONS: &str = "
@@ -542,6 +582,9 @@ pub(crate) fn text_of(command: Command) -> &'static str {
         Command::Distinct => DISTINCT,
         Command::Import => IMPORT,
         Command::Export => EXPORT,
+        Command::Drop => DROP,
+        Command::Rename => RENAME,
+        Command::Copy => COPY,
         Command::Collections => COLLECTIONS,
         Command::Check => CHECK,
         Command::Backup => BACKUP,

@@ -21,6 +21,7 @@ fn text_of(argument: Argument) -> &'static str
         Argument::Options => "",
         Argument::Documents => " [INPUT]",
         Argument::Key | Argument::IndexPath | Argument::File => " PATH",
+        Argument::NewName => " NEW",
         Argument::Folder => " DIR",
     }
 }
