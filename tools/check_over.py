@@ -7,6 +7,7 @@
 whoever works in others checks over what it has proved by then: a library that isn't there yet is waited for. A crate below that this
 checkout has changed against COPY, or that stands on one, is proved and built here, in out/over. Each further WORD goes to the check, as
 `--only FUNCTION`, `--allow-holes` or `--start FUNCTION`. What is proved so counts for nothing in the gate, which proves it again.
+Each file that isn't in the layout of `rt fmt` is named at the end, as the gate refuses its crate.
 """
 import functools
 import hashlib
@@ -94,6 +95,12 @@ class Libraries:
         (folder / "out").mkdir(exist_ok=True)
         return subprocess.run([self.kit / "bin" / "rattle", verb, *self.words(name), *words], cwd=folder, stdin=subprocess.DEVNULL).returncode
 
+    def tell_layout(self, name):
+        """Names each file that isn't in the layout, and returns the status of that."""
+        folder = ROOT / "crates" / name
+        files = sorted(file for part in PARTS for end in ("rt", "antt") for file in (folder / part).glob(f"**/*.{end}"))
+        return subprocess.run([self.kit / "bin" / "rattle", "fmt", "--check", *files], stdin=subprocess.DEVNULL).returncode
+
     def build(self, name):
         """Proves and builds the library of a crate here, over what earlier builds kept."""
         made = ROOT / "crates" / name / "out" / "over"
@@ -111,7 +118,8 @@ def main():
     libraries = Libraries(pathlib.Path(sys.argv[1]).resolve())
     if sys.argv[2] not in libraries.needs:
         sys.exit(f"check_over.py: crates.txt has no {sys.argv[2]}")
-    return libraries.run("check", sys.argv[2], sys.argv[3:])
+    status = libraries.run("check", sys.argv[2], sys.argv[3:])
+    return libraries.tell_layout(sys.argv[2]) or status
 
 
 if __name__ == "__main__":
