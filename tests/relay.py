@@ -5,9 +5,10 @@ theirs, connections that hang, kills, sockets, limits and rates.
     tests/relay.py PROGRAM [STEP ..]
 
 PROGRAM is fallowtime, under whatever name. If it doesn't answer messages yet (`fallowtime FILE --messages`), one line says so, and
-tests/drivers/stand_in.py is in its place, which shows nothing of the program. A STEP is the name of a function below; of `hostile` the
-number of messages may stand behind it, as hostile=100000. Prints a line a step, and ends with status 1 at the first that isn't as it
-should be. Wants python3-pymongo, and for the drivers gcc, pkg-config, libmongoc-dev, node and node-mongodb.
+tests/drivers/stand_in.py is in its place, which shows nothing of the program. A STEP is the name of a function below; behind `hostile`
+may stand the number of messages, as hostile=100000, and behind `rates` that the clock counts, as rates=clock. Prints a line a step, and
+ends with status 1 at the first that isn't as it should be. Wants python3-pymongo, and for the drivers gcc, pkg-config, libmongoc-dev,
+node and node-mongodb.
 """
 import atexit
 import contextlib
@@ -31,8 +32,8 @@ import relaying
 from relaying import HEADER, LONG, LONGEST, MORE_TO_COME, OP_MSG, ROOT, Line, Relay, compiled, fail, hello, holds, is_gone, message, wait_for
 
 SEED = 20261128
-# How many times as long as over a server that answers with a constant a find may take.
-LONGER = 2.5
+# How many times as long as over a server that answers with a constant a find may take: of the processor, and by the clock.
+MOST_WORK, LONGER = 6, 2.5
 FIND = {"find": "items", "$db": "shop"}
 # What the three drivers have to print, each in its own way of writing values.
 EXPECTED = {
@@ -45,9 +46,6 @@ EXPECTED = {
 EXPECTED_OF_C = {
     "closed_cursor": "[1,3]", "find_one": "[1,5]", "find_none": "[0,0]", "sorted": "[2,587]", "long_insert": "20",
     "long_documents": "[20,190]", "drop": "1"}
-# MongoDB's numbers of a command and of a part of one that isn't there, and the steps that ask for one.
-ABSENT = ("error 59", "error 238")
-LACKING = {"drop"}
 
 
 def store(folder, name="shop"):
@@ -79,34 +77,30 @@ def plain(told):
     return re.sub(r"^error", "error ", told)
 
 
-def hold_driver(name, words, expected, is_standing_in):
+def hold_driver(name, words, expected):
     done = subprocess.run(words, capture_output=True, text=True, timeout=10 * LONG,
                           env={**os.environ, "NODE_PATH": "/usr/share/nodejs:/usr/lib/nodejs"})
     lines = dict(line.split(" ", 1) for line in done.stdout.splitlines() if " " in line)
     if done.returncode or set(lines) != set(expected):
         fail(f"{name}: status {done.returncode}, {set(lines) ^ set(expected)}: {done.stdout[-500:]} {done.stderr[-1500:]}")
-    absent = []
     for step, wanted in expected.items():
         found = plain(lines[step])
-        if found in ABSENT and step in LACKING and not is_standing_in:
-            absent.append(step)
-        elif found != wanted and not (step == "drop" and found == "null"):
+        if found != wanted and not (step == "drop" and found == "null"):
             fail(f"{name}: {step} {found} in place of {wanted}")
-    print(f"{name}: {len(expected) - len(absent)} of {len(expected)} steps" + (f"; absent: {', '.join(absent)}" if absent else ""))
+    print(f"{name}: {len(expected)} steps")
 
 
 def drivers(program, folder):
     """pymongo, libmongoc and Node's driver, over a port and over a socket."""
-    is_standing_in = program == relaying.STAND_IN
     c_has = {**EXPECTED, **EXPECTED_OF_C}
     for step in "distinct", "upsert", "unanswered", "collections":
         del c_has[step]
     here = ROOT / "tests/drivers"
     for relay in Relay(program, store(folder)), Relay(program, store(folder, "other"), path=str(folder / "other.sock")):
         where = "a socket" if relay.path else "a port"
-        hold_driver(f"pymongo over {where}", ["/usr/bin/python3", here / "driver.py", relay.address], EXPECTED, is_standing_in)
-        hold_driver(f"libmongoc over {where}", [compiled(folder), relay.address], c_has, is_standing_in)
-        hold_driver(f"Node's driver over {where}", ["node", here / "driver.js", relay.address], EXPECTED, is_standing_in)
+        hold_driver(f"pymongo over {where}", ["/usr/bin/python3", here / "driver.py", relay.address], EXPECTED)
+        hold_driver(f"libmongoc over {where}", [compiled(folder), relay.address], c_has)
+        hold_driver(f"Node's driver over {where}", ["node", here / "driver.js", relay.address], EXPECTED)
         holds("the end", relay.end(), 0)
         holds("what the relay said", relay.errors(), "")
 
@@ -240,6 +234,53 @@ def collections(program, folder):
     holds("a pipeline", found["cursor"]["firstBatch"], [{"a": 2}])
     holds("the end", relay.end(), 0)
     print("collections: made, their indexes, pipelines that find, and documents found or put in")
+
+
+def transfers(program, folder):
+    """Collections that are dropped, renamed and filled by `$out`, their indexes, and one that is asked for by its name."""
+    relay = Relay(program, store(folder))
+    line = relay.line()
+
+    def ask(command, database="shop"):
+        answer = line.ask({**command, "$db": database})
+        return answer["code"] if "code" in answer else answer
+
+    def rename(old, new, **options):
+        return ask({"renameCollection": old, "to": new, **options}, "admin")
+
+    def first(command):
+        answer = ask(command)
+        return answer if isinstance(answer, int) else answer["cursor"]["firstBatch"]
+
+    def found(name):
+        return first({"find": name, "filter": {}})
+
+    def out(target, *stages):
+        return ask({"aggregate": "old", "pipeline": [*stages, {"$out": target}], "cursor": {}})
+
+    documents = [{"_id": number, "a": number % 2} for number in range(3)]
+    holds("put in", ask({"insert": "items", "documents": documents}), {"n": 3, "ok": 1.0})
+    holds("one by its name", first({"listCollections": 1, "filter": {"name": "items"}}), [{"name": "items", "type": "collection", "options": {}}])
+    holds("one that isn't there", first({"listCollections": 1, "filter": {"name": "nosuch"}, "nameOnly": True}), [])
+    holds("all", [len(first({"listCollections": 1, "filter": filter})) for filter in ({}, None)], [1, 1])
+    holds("other filters", [first({"listCollections": 1, "filter": filter}) for filter in ({"name": {"$regex": "i"}}, {"type": "view"}, {"name": "items", "type": "view"})], [238] * 3)
+    index = {"v": 2, "key": {"_id": 1}, "name": "_id_"}
+    holds("indexes", (first({"listIndexes": "items", "cursor": {}}), first({"listIndexes": "nosuch"})), ([index], 26))
+    holds("dropped indexes", [ask({"dropIndexes": name, "index": index}) for name, index in
+                              (("items", "*"), ("items", "a_1"), ("items", "_id_"), ("items", {"a": 1}), ("nosuch", "*"), ("nosuch", "a_1"))],
+          [{"nIndexesWas": 1, "ok": 1.0}, 27, 72, 2, 26, 26])
+    holds("refused names", (rename("shop.nosuch", "shop.old"), rename("shop.items", "shop.items"), rename("shop.items", "other.old"), rename("items", "shop.old"),
+                            rename("shop.items", "shop.old", dropTarget=True), ask({"renameCollection": "shop.items", "to": "shop.old"}), found("items")),
+          (26, 48, 73, 73, 238, 73, documents))
+    holds("another name", (rename("shop.items", "shop.old", dropTarget=False), found("items"), found("old")), ({"ok": 1.0}, [], documents))
+    holds("what a pipeline finds", (out("new", {"$match": {"a": 0}}, {"$sort": {"_id": -1}})["cursor"]["firstBatch"], found("new")), ([], [{"_id": 2, "a": 0}, {"_id": 0, "a": 0}]))
+    holds("nothing found", (out("none", {"$match": {"a": 5}})["ok"], found("none")), (1.0, []))
+    holds("where some are", (out("new"), out("old"), found("new")), (48, 48, [{"_id": 2, "a": 0}, {"_id": 0, "a": 0}]))
+    holds("other pipelines", (out({"db": "shop", "coll": "x"}), ask({"aggregate": "old", "pipeline": [{"$out": "x"}, {"$match": {}}], "cursor": {}}),
+                              out("x", {"$project": {"a": 1, "_id": 0}}), found("x")), (238, 238, 2, []))
+    holds("dropped", (ask({"drop": "old"}), ask({"drop": "old"}), found("old"), ask({"drop": ""})), ({"nIndexesWas": 1, "ns": "shop.old", "ok": 1.0}, 26, [], 73))
+    holds("the end", relay.end(), 0)
+    print("transfers: collections dropped, renamed and filled by a pipeline, their names and their indexes")
 
 
 # Bytes that are none of a driver's.
@@ -681,11 +722,11 @@ class Clients:
             process.stdout.close()
 
 
-def rates(program, folder):
-    """A find by _id takes at most twice as long as over a server that answers with a constant, 1.9 times as measured, and the test
-    fails at a quarter more, as a machine is never quite at rest; 8 clients get more than one. On a machine that has other work, and
-    over what stands in for the program, only the processor's time can be compared, that of the client and of what answers it or
-    passes it on, and then only roughly."""
+def rates(program, folder, by=""):
+    """A find by _id takes at most six times the processor that it takes over a server that answers with a constant, that of the client
+    and of what answers it or passes it on: between 1.4 and 2.3 were measured, by what else the machine does. `rates=clock` also holds
+    what passes by the clock, twice as long and a quarter more, and 8 clients get more than one: that only means something on a machine
+    that does nothing else, before and meanwhile."""
     relay = Relay(program, store(folder))
     constant = subprocess.Popen([sys.executable, "-B", ROOT / "tests/drivers/constant.py"], stdout=subprocess.PIPE, text=True)
     atexit.register(constant.kill)
@@ -713,14 +754,12 @@ def rates(program, folder):
     told = ", ".join(f"{name} {number:.0f}" for name, number in rate.items())
     times = rate["constant"] / rate["one"], seconds["one"] / seconds["constant"]
     told = f"{told} finds a second, {times[0]:.2f} times as long by the clock, {times[1]:.2f} times by the processor"
-    is_at_rest = os.getloadavg()[0] < os.cpu_count() / 2
-    is_measured = is_at_rest and program != relaying.STAND_IN
-    if times[1] > 6 or is_measured and (times[0] > LONGER or rate["eight"] <= rate["one"]):
+    if times[1] > MOST_WORK or by == "clock" and (times[0] > LONGER or rate["eight"] <= rate["one"]):
         fail(f"rates: {told}")
-    print(f"rates: {told}" + ("" if is_at_rest else "; the machine has other work"))
+    print(f"rates: {told}")
 
 
-STEPS = [drivers, writes, batches, collections, hostile, hanging, names, limits, room, faults, kills, lost_clients, stops, sockets, addresses, systemd, rates]
+STEPS = [drivers, writes, batches, collections, transfers, hostile, hanging, names, limits, room, faults, kills, lost_clients, stops, sockets, addresses, systemd, rates]
 
 
 def main():
