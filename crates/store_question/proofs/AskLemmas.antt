@@ -1,5 +1,5 @@
 -- Steps of a question.
-use Rattle.std.proofs.Common.{◌≡◌, ◌↔◌, ◌⊎◌, inl, inr, ℕ, suc, ◌+◌, ◌<◌, ◌≤◌, List, [], ◌∷◌, map, drop, length, get_or, Bool, true, false, IsTrue, Option, Some, None, is_some, String, string_bytes, refl, sym, ap, ◌∙◌, subst, arith, add-one}
+use Rattle.std.proofs.Common.{◌≡◌, ◌↔◌, ◌⊎◌, inl, inr, ℕ, ◌+◌, ◌<◌, ◌≤◌, List, [], ◌∷◌, map, drop, length, get_or, Bool, true, false, IsTrue, Option, Some, None, is_some, String, string_bytes, refl, sym, ◌∙◌, subst, arith, add-one}
 use Rattle.std.specs.Prelude.{IsSomeAnd, MatchOption, not}
 use Rattle.std.specs.declared.alloc.Global.{Global}
 use Rattle.std.proofs.Math.Seq.{drop-cons}
@@ -14,8 +14,8 @@ use Rattle.store_filter.specs.Filters.{path_of}
 use Rattle.store_filter.specs.Views.{Encodes}
 use Rattle.store_model.specs.Filter.{pairs, under_places, Path}
 use Rattle.store_question.specs.declared.question.Question.{Question}
-use Rattle.store_question.specs.Asked.{Asked, Askeds, no_asked, asked, Answers, AnswersAll, AnswersAny, AnyMember, HasItem, AtEnd, AtMember, AtPlace, Along, IntoDocument, Through, Under}
-use Rattle.store_question.specs.Reads.{Form, Forms, form, no_forms, forms_of, form_of, Reads, ReadEach, Found, Shows, FindsMember, HoldsItems}
+use Rattle.store_question.specs.Asked.{Asked, Askeds, no_asked, Answers, AnswersAll, AnswersAny, AnyMember, HasItem, AtEnd, AtMember, AtPlace, Along, IntoDocument, Through, Under}
+use Rattle.store_question.specs.Reads.{form, forms_of, form_of, Reads, ReadEach, Found, Shows, HoldsItems}
 
 pub answered : (b : Bool) (t a : Asked) (o : Option Value) → t ≡ a → IsTrue b ↔ Answers a o → IsTrue b ↔ Answers t o
 answered b t a o e h = subst (λ (x : Asked). IsTrue b ↔ Answers x o) (sym e) h
@@ -44,7 +44,7 @@ pub record SomeLeft (whole : Askeds) (o : Option Value) (list : List Question) :
   pub read : ReadEach (forms_of (map form_of list)) left
   pub same : AnswersAny whole o ↔ AnswersAny left o
 
-front : (list : List Question) (i : ℕ) (q : Question) → q ≡ get_or list i q → i < length list → drop i list ≡ q ∷ drop (i + 1) list
+pub front : (list : List Question) (i : ℕ) (q : Question) → q ≡ get_or list i q → i < length list → drop i list ≡ q ∷ drop (i + 1) list
 front list i q e h = drop-cons list i q h ∙ rw (← e, add-one) refl
 
 module _ (whole : Askeds) (o : Option Value) (list : List Question) (i : ℕ) (q : Question) (e : q ≡ get_or list i q) (h : i < length list) where

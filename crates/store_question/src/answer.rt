@@ -10,6 +10,7 @@ ghost use Rattle.store_model.specs.Filter.{pairs, under_places};
 ghost use Rattle.store_question.specs.Asked.{Asked, Askeds, Answers, AnswersAll, AnswersAny, AnyMember, HasItem, IntoDocument, AtEnd, AtMember, AtPlace, Along, Through, Under};
 ghost use Rattle.store_question.specs.Reads.{Found, FindsMember, OfElement, OfMembers, ReadEach, Reads, Shows, form_of, forms_of};
 
+use crate::lacking::{lacks, lacks_place};
 use crate::leaf::{begins, has_kind, has_size, items_in, leaves, lies};
 use crate::question::Question;
 use bson_raw::{RawBsonRef, RawDocument, RawElement};
@@ -19,6 +20,9 @@ pub fn answers(document: RawDocument<'_>, question: &Question) -> bool
     ensures { (t : Asked) → Reads (form_of question.now) t → OfWritten (bytes_of document.entry)
         (λ d. levels (tree d) ≤ 200 → IsTrue result ↔ Answers t (Some (tree d))) }
 {
+    if lacks(document.as_bytes(), question) {
+        return false;
+    }
     fits(Some(RawBsonRef::Document(document)), question)
 }
 
@@ -241,10 +245,28 @@ fn into_document(
         → IsTrue result ↔ IntoDocument opens (Answers t) key.now (AtMember opens (Answers t) (path_of rest.now)) v }
 {
     if value.as_document().is_some() {
-        under(value, key, rest, question, opens)
+        under_item(value, key, rest, question, opens)
     } else {
         false
     }
+}
+
+/// The same as `under`, of an item of an array: its bytes may tell that it hasn't the key.
+#[cycle(asking)]
+fn under_item(
+    value: RawBsonRef<'_>,
+    key: &str,
+    rest: &[String],
+    question: &Question,
+    opens: bool,
+) -> bool
+    ensures { (t : Asked) → Reads (form_of question.now) t → (v : Value) → Found value.entry v
+        → IsTrue result ↔ Under opens (Answers t) key.now (AtMember opens (Answers t) (path_of rest.now)) (pairs v) }
+{
+    if lacks_place(value, key) {
+        return fits(None, question);
+    }
+    under(value, key, rest, question, opens)
 }
 
 /// On from an item that was reached by its place. Such an item at the end of the path isn't opened.

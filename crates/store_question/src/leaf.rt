@@ -118,7 +118,7 @@ pub(crate) fn begins(value: Option<RawBsonRef<'_>>, beginning: &[u8]) -> bool
 }
 
 /// The text that a value is. None of what is neither a text nor a symbol.
-fn text_of(value: RawBsonRef<'_>) -> Option<&str>
+pub(crate) fn text_of(value: RawBsonRef<'_>) -> Option<&str>
     ensures { (v : Value) → SpellsRawValue (ref_value value.entry) v → option_map (λ t. t.now) result ≡ text_in v }
 {
     match value {

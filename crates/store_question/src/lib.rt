@@ -3,6 +3,7 @@
 #![tactic(auto)]
 
 mod answer;
+mod lacking;
 pub mod laws;
 mod leaf;
 mod question;

@@ -183,4 +183,4 @@ pub into_document-returns-then-is_some : goal.into_document-returns-then-is_some
 into_document-returns-then-is_some t c =
     λ a r v f.
     let d = is_document c.args.value v c.is_some.result (c.is_some.ensures ∙ ap is_some c.as_document.ensures) c.if-is_some.true f.encodes in
-    into_it c.args.opens (Answers a) c.under.result c.args.key.now (AtMember c.args.opens (Answers a) (path_of c.args.rest.now)) v d.0 d.1 (c.under.ensures a r v f)
+    into_it c.args.opens (Answers a) c.under_item.result c.args.key.now (AtMember c.args.opens (Answers a) (path_of c.args.rest.now)) v d.0 d.1 (c.under_item.ensures a r v f)

@@ -1,0 +1,114 @@
+//! Documents that can't answer, told by a search of their bytes.
+
+ghost use Rattle.std.specs.Prelude.{◌≡◌, ◌∷◌, [], IsTrue, None, Some, map, true};
+ghost use Rattle.bson_base.specs.Value.{Members, Value, document as tree, look_up};
+ghost use Rattle.bson_bytes.specs.Encode.{encode, value_bytes};
+ghost use Rattle.bson_raw.specs.Convert.{SpellsRawValue};
+ghost use Rattle.bson_raw.specs.Raw.{ref_value};
+ghost use Rattle.store_model.specs.Filter.{Path, pairs};
+ghost use Rattle.store_question.specs.Asked.{Along, Answers, AnswersAll, Asked, Askeds, lies_to};
+ghost use Rattle.store_question.specs.Lacking.{IsTextBeyond, StandsIn};
+ghost use Rattle.store_question.specs.Reads.{Found, ReadEach, Reads, form_of, forms_of};
+
+use crate::leaf::text_of;
+use crate::question::{Comparison, Question};
+use bson_raw::RawBsonRef;
+use memchr::memmem::find;
+
+/// Whether the bytes of a document have nowhere a text that the question asks for, so that the document can't answer: a
+/// search of them takes less than a walk. False says nothing.
+pub(crate) fn lacks(bytes: &[u8], question: &Question) -> bool
+    ensures { (t : Asked) → Reads (form_of question.now) t → (d : Members) → bytes.now ≡ encode d
+        → IsTrue result → Answers t (Some (tree d)) → ⊥ }
+{
+    match question {
+        Question::All(list) => lacks_one(bytes, list.as_slice()),
+        _ => lacks_at(bytes, question),
+    }
+}
+
+/// The same of one of the questions, all of which a document is to answer.
+fn lacks_one(bytes: &[u8], list: &[Question]) -> bool
+    ensures { (ts : Askeds) → ReadEach (forms_of (map form_of list.now)) ts → (d : Members) → bytes.now ≡ encode d
+        → IsTrue result → AnswersAll ts (Some (tree d)) → ⊥ }
+{
+    for question in list {
+        if lacks_at(bytes, question) {
+            return true;
+        }
+    }
+    false
+}
+
+/// The same of a question along a path.
+fn lacks_at(bytes: &[u8], question: &Question) -> bool
+    ensures { (t : Asked) → Reads (form_of question.now) t → (d : Members) → bytes.now ≡ encode d
+        → IsTrue result → Answers t (Some (tree d)) → ⊥ }
+{
+    match question {
+        Question::At(_, inner) => lacks_value(bytes, inner),
+        _ => false,
+    }
+}
+
+/// Whether the bytes of a value have nowhere a text to which what is asked for is equal.
+fn lacks_value(bytes: &[u8], question: &Question) -> bool
+    ensures { (t : Asked) → Reads (form_of question.now) t → (p : Path) (v : Value) → bytes.now ≡ value_bytes v
+        → IsTrue result → Along true (Answers t) p (Some v) → ⊥ }
+{
+    match question {
+        Question::Compare(comparison, other) => {
+            lacks_equal(bytes, *comparison, other.as_raw_bson_ref())
+        }
+        _ => false,
+    }
+}
+
+/// Whether the bytes have nowhere the text to which a value is to be equal.
+fn lacks_equal(bytes: &[u8], comparison: Comparison, other: RawBsonRef<'_>) -> bool
+    ensures { (w : Value) → SpellsRawValue (ref_value other.entry) w
+        → IsTrue result → (u : Value) → IsTrue (lies_to comparison u w) → IsTextBeyond bytes.now u }
+{
+    match comparison {
+        Comparison::Equal => match text_of(other) {
+            Some(text) => lacks_text(bytes, text),
+            None => false,
+        },
+        _ => false,
+    }
+}
+
+/// Whether a text stands nowhere among bytes.
+fn lacks_text(bytes: &[u8], text: &str) -> bool
+    ensures { IsTrue result → StandsIn text.now bytes.now → ⊥ }
+{
+    find(bytes, text.as_bytes()).is_none()
+}
+
+/// Whether the bytes of a document have nowhere a key of one digit: as a rule those of an item of an array haven't the
+/// key by which a path names a place. False says nothing.
+pub(crate) fn lacks_place(value: RawBsonRef<'_>, key: &str) -> bool
+    ensures { (v : Value) → Found value.entry v → IsTrue result → look_up key.now (pairs v) ≡ None }
+{
+    match value.as_document() {
+        Some(document) => lacks_key(document.as_bytes(), key),
+        None => false,
+    }
+}
+
+/// The same of the bytes.
+fn lacks_key(bytes: &[u8], key: &str) -> bool
+    ensures { (ms : Members) → bytes.now ≡ encode ms → IsTrue result → look_up key.now ms ≡ None }
+{
+    match key.as_bytes() {
+        [digit] => digit.is_ascii_digit() && lacks_name(bytes, *digit),
+        _ => false,
+    }
+}
+
+/// Whether a key of this one byte stands nowhere among bytes, with the 00 behind it.
+fn lacks_name(bytes: &[u8], byte: u8) -> bool
+    ensures { IsTrue result → StandsIn (byte ∷ 0 ∷ []) bytes.now → ⊥ }
+{
+    find(bytes, &[byte, 0]).is_none()
+}
