@@ -4,3 +4,4 @@ pub mod TakeLemmas
 mod ToBsonLemmas
 mod SpoiledLemmas
 mod PipedLemmas
+mod ShownLemmas

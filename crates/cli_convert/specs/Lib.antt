@@ -5,3 +5,4 @@ pub mod ToBson
 pub mod Reports
 pub mod Program
 pub mod Piped
+pub mod Shown

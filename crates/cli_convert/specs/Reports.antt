@@ -6,7 +6,7 @@ use Rattle.bson_frame.specs.declared.error.ErrorKind.{ErrorKind}
 use Rattle.bson_frame.specs.declared.error.ErrorKind.TheVariants as kinds
 use Rattle.bson_json_read.specs.declared.error.Error.{Error}
 use Rattle.bson_json_read.specs.declared.error.Error.TheVariants.{NotJson, RepeatedKey, InvalidObjectId, NumberOutOfRange, NotExtendedJson, Memory}
-use Rattle.shown_text.specs.Shown.{shown}
+use Rattle.cli_convert.specs.Shown.{shown}
 use Rattle.cli_convert.specs.declared.stop.Fault.{Fault}
 use Rattle.cli_convert.specs.declared.stop.Fault.TheVariants as fault
 use Rattle.cli_convert.specs.declared.stop.LineFault.{LineFault}

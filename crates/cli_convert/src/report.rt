@@ -2,15 +2,15 @@
 
 ghost use Rattle.std.specs.Prelude.{◌≡◌, ◌⊎◌, ◌++◌, codes, IfOk, string_bytes};
 ghost use Rattle.bson_base.specs.Device.{CanRefuse, TakesText};
-ghost use Rattle.shown_text.specs.Shown.{shown};
+ghost use Rattle.cli_convert.specs.Shown.{shown};
 ghost use Rattle.cli_convert.specs.Reports.{byte_text as text_of_byte, fault_text, kind_name as name_of_kind, line_text, memory_line, misuse as misuse_of, refusal as refusal_of, stop_status, stop_text, text_fault, Reports, SendsWhole};
 
+use crate::shown_text::shown;
 use crate::stop::{Fault, LineFault, Stop};
 use bson_base::{Sink, write_all};
 use bson_json_read::Error;
 use bson_raw::ErrorKind;
 use itoa::Buffer;
-use shown_text::shown;
 use std::alloc::{AllocError, Global};
 
 /// The status of a program whose input or output is at fault.

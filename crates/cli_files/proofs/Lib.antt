@@ -1,2 +1,3 @@
 mod ReportLemmas
 pub mod UnopenedLemmas
+mod PartLemmas

@@ -1,3 +1,5 @@
 pub mod Fault
 pub mod Loaded
 pub mod Looking
+pub mod Agrees
+pub mod Parts

@@ -1,12 +1,12 @@
 //! The files of a database as they are at one moment, of which parts are read beside other processes.
 
 ghost use Rattle.std.specs.Prelude.{◌≡◌, true, IfOk, IfSome};
-ghost use Rattle.cli_parts.specs.Parts.{is_clean_of, seen_of};
+ghost use Rattle.cli_files.specs.Parts.{is_clean_of, seen_of};
 
 use crate::fault::FileError;
 use crate::looking::{LOG_HEADER, Look, Paths, is_one_state};
 use crate::opening::judge_name;
-use cli_parts::FileParts;
+use crate::parts::FileParts;
 use sqlite_disk::{Files, Start};
 use std::fs;
 use std::io::{self, Read};

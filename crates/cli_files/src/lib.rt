@@ -7,6 +7,7 @@ mod fault;
 mod loaded;
 mod looking;
 mod opening;
+mod parts;
 mod reading;
 mod reporting;
 
@@ -15,5 +16,6 @@ pub use copying::{copy, reopened, whole, write_whole};
 pub use fault::FileError;
 pub use loaded::Loaded;
 pub use opening::{close, lock_within, open, open_within, options_of_few};
+pub use parts::FileParts;
 pub use reading::read;
 pub use reporting::{misuse, refuse, refuse_file, report_file, unread};

@@ -15,3 +15,7 @@ pub mod ManyLemmas
 pub mod AppendLemmas
 pub mod LoadLemmas
 pub mod KindLemmas
+mod WrapperLemmas
+mod MemberLemmas
+pub mod PlaceLemmas
+pub mod FormLemmas

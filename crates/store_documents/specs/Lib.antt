@@ -6,3 +6,6 @@ pub mod Trees
 pub mod Keys
 pub mod Judging
 pub mod Loading
+pub mod Reads
+pub mod Order
+pub mod Forms

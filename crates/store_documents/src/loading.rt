@@ -8,8 +8,8 @@ ghost use Rattle.store_model.specs.Reading.{ReadsTree, ReadsTrees};
 ghost use Rattle.store_documents.specs.Judging.{AnswersRow, Judges};
 
 use crate::json_row::{row_in_order, row_of_json};
+use crate::reading::document_of_text;
 use crate::write::KeptRow;
-use bson_text_read::document_of_text;
 use json::Scratch;
 use serde_json::Value;
 use std::alloc::Global;

@@ -7,12 +7,12 @@ ghost use Rattle.sqlite.specs.Effect.{Database};
 ghost use Rattle.store_table.specs.Rows.{TableRow, AreBelow, is_row_named, last_place, with_body_at, without_place};
 ghost use Rattle.store_writer.specs.Store.{HasStore, row_at};
 
+use crate::edits::{add_entry, put_row, remove_entry, remove_row};
 use crate::records::{entry_of, record_of, row_record};
 use sqlite_btree::{Batch, Scratch, table};
 use sqlite_pages::{Error, Pages};
 use std::alloc::Global;
 use store_pages::Roots;
-use store_trees::{add_entry, put_row, remove_entry, remove_row};
 
 /// The greatest place, or 0 if there is no row.
 pub(crate) fn last_row<P: Pages>(

@@ -1,2 +1,0 @@
-mod WrapperLemmas
-mod MemberLemmas

@@ -1,8 +1,0 @@
-use Rattle.key_order.proofs.PlaceLemmas.{Left}
-use Rattle.key_order.proofs.place_of.Given as goal
-
-abbrev pub invariant-loop-at : goal.invariant-loop-at
-invariant-loop-at g l = Left l.key l.at l.pairs
-
-abbrev pub decreases-loop-at : goal.decreases-loop-at
-decreases-loop-at g l = l.at
