@@ -29,3 +29,7 @@ pub mod StandLemmas
 pub mod DraftedLemmas
 pub mod EditLemmas
 pub mod WholeLemmas
+pub mod DraftLemmas
+pub mod ApartLemmas
+pub mod OverLemmas
+pub mod RowsLemmas

@@ -33,7 +33,7 @@ bytes_bad_name docs n b call bad = let x = any_bytes b in (x.0, x.1, bad_name do
 pub tree_bad_name : (docs : List TableRow) (n : List ℕ) (j : Data) (call : Form → Reading → Call) → (IsName n → ⊥) → DoesTree n (call in_json) j (refused BadName None) docs docs
 tree_bad_name docs n j call bad = let x = any_tree j in (x.0, x.1, bad_name docs n (call in_json x.0) bad)
 
-unread : (docs : List TableRow) (n : List ℕ) (call : Form → Reading → Call) (f : Form) (k : ErrorKind) → TakesReading call → IsName n → Does (on n (call f (unreadable k))) (refused k None) docs docs
+pub unread : (docs : List TableRow) (n : List ℕ) (call : Form → Reading → Call) (f : Form) (k : ErrorKind) → TakesReading call → IsName n → Does (on n (call f (unreadable k))) (refused k None) docs docs
 unread docs n call f k t good = answers_stay docs n (call f (unreadable k)) (refused k None) good (λ a s. t.unread f k _)
 
 wanted : (docs : List TableRow) (n : List ℕ) (call : Form → Reading → Call) (f : Form) (x : Reading) → TakesReading call → IsName n → (IsUnread f x → ⊥) → Does (on n (call f x)) (refused Memory None) docs docs

@@ -5,18 +5,18 @@ use Rattle.sqlite.specs.State.{State}
 use Rattle.bson_base.specs.Value.{Members, document}
 use Rattle.bson_bytes.specs.Encode.{encode}
 use Rattle.store_filter.specs.Filters.{filter_of, path_of}
-use Rattle.store_indexed.specs.Asking.{Spares, TookAsked, VisitsAsked, bodies_by}
+use Rattle.store_index.specs.Asking.{Spares, TookAsked, VisitsAsked, bodies_by}
 use Rattle.store_table.specs.Rows.{TableRow, is_in}
 use Rattle.store_table.specs.Moves.{Moves}
 use Rattle.store_table.specs.declared.fault.Fault.{Fault}
-use Rattle.store_model.specs.Filter.{Filter, Selects}
+use Rattle.store_model.specs.Filter.{Filter, Selects, all_of, no_filters}
 use Rattle.store_model.specs.Reading.{Documents}
 use Rattle.store_model.specs.Run.{IsDecidedCall}
 use Rattle.store_model.specs.State.{Answers, AreKept, Call, IsKept, IsName, Picks, Reply, on, only, refused}
 use Rattle.store_model.specs.Table.{DocumentTable, documents_of}
 use Rattle.bson_store.specs.Calls.{Does}
 use Rattle.bson_store.specs.Export.{bytes_of_each}
-use Rattle.bson_store.specs.Questions.{GivesPicked, IsSettled, Picked, PickedFrom, Turns}
+use Rattle.bson_store.specs.Questions.{GivesPicked, IsSettled, Passed, PassedFrom, Picked, PickedFrom, PickedOf, Spared, Turns}
 use Rattle.bson_store.specs.Refusals.{IsDenied, kind_of_fault}
 use Rattle.store_model.specs.Refusal.{refusal}
 use Rattle.bson_store.specs.Shown.{Represents}
@@ -153,23 +153,23 @@ all_taken took f g fault bodies ds p kept same whole ends gave =
     let got : Taken took f p.front = subst (λ o. MatchOption o (Taken took f p.front) IsDenied) whole (gave p.front (front_kept p.front p.back k) p.bodies_are) in
     subst (Taken took g) (sym p.split) (rest_taken took g p.front p.back (back_kept p.front p.back k) ends (subst (λ h. Taken took h p.front) same got))
 
--- ---- rows that a filter may select
+-- ---- documents of which P may hold
 
 not_both : (b : Bool) → b ≡ true → b ≡ false → ⊥
 not_both b t f = let e : true ≡ false = sym t ∙ f in cc
 
--- The bodies were written for documents, of which the filter selects what it selects of all.
-record Thinned (f : Filter) (all : Documents) (bodies : List (List ℕ)) : Type 0 where
+-- The bodies were written for documents, and none of all was left out of which P holds.
+record Thinned (P : Members → Type 0) (all : Documents) (bodies : List (List ℕ)) : Type 0 where
   pub documents : Documents
   pub bodies_are : bodies ≡ map encode documents
   pub kept : AreKept documents
-  pub picks : (out : Documents) → Picks f documents out → Picks f all out
+  pub spared : Spared P all documents
 
-thin : (f : Filter) (test : TableRow → Bool) (rows : List TableRow) (ds : Documents) → map (λ (d : TableRow). d.body) rows ≡ map encode ds → AreKept ds → Spares test f rows → Thinned f ds (map (λ (d : TableRow). d.body) (filter test rows))
-thin f test [] [] is kept spares = record { documents = []; bodies_are = refl; kept = tt; picks = λ out p. p }
-thin f test [] (m ∷ ds) is kept spares = absurd (cc)
-thin f test (d ∷ rows) [] is kept spares = absurd (cc)
-thin f test (d ∷ rows) (m ∷ ds) is kept spares = by (test d) refl (thin f test rows ds tail kept.1 spares.1)
+thin : (P : Members → Type 0) (test : TableRow → Bool) (rows : List TableRow) (ds : Documents) → map (λ (d : TableRow). d.body) rows ≡ map encode ds → AreKept ds → Spares test P rows → Thinned P ds (map (λ (d : TableRow). d.body) (filter test rows))
+thin P test [] [] is kept spares = record { documents = []; bodies_are = refl; kept = tt; spared = refl }
+thin P test [] (m ∷ ds) is kept spares = absurd (cc)
+thin P test (d ∷ rows) [] is kept spares = absurd (cc)
+thin P test (d ∷ rows) (m ∷ ds) is kept spares = by (test d) refl (thin P test rows ds tail kept.1 spares.1)
   where
     head : d.body ≡ encode m
     head = cc
@@ -177,36 +177,43 @@ thin f test (d ∷ rows) (m ∷ ds) is kept spares = by (test d) refl (thin f te
     tail : map (λ (e : TableRow). e.body) rows ≡ map encode ds
     tail = cc
 
-    by : (b : Bool) → test d ≡ b → Thinned f ds (map (λ (e : TableRow). e.body) (filter test rows)) → Thinned f (m ∷ ds) (map (λ (e : TableRow). e.body) (cond b (d ∷ filter test rows) (filter test rows)))
-    by true e t = record {
-      documents = m ∷ t.documents;
-      bodies_are = ap₂ (λ x xs. x ∷ xs) head t.bodies_are;
-      kept = (kept.0, t.kept);
-      picks = λ out p. elim p [ inl h ↦ inl (h.0, (h.1.0, h.1.1, t.picks h.1.0 h.1.2)) | inr h ↦ inr (h.0, t.picks out h.1) ];
-    }
-    by false e t = record {
-      documents = t.documents;
-      bodies_are = t.bodies_are;
-      kept = t.kept;
-      picks = λ out p. inr (λ selected. not_both (test d) (spares.0 m kept.0 head selected) e, t.picks out p);
-    }
+    by : (b : Bool) → test d ≡ b → Thinned P ds (map (λ (e : TableRow). e.body) (filter test rows)) → Thinned P (m ∷ ds) (map (λ (e : TableRow). e.body) (cond b (d ∷ filter test rows) (filter test rows)))
+    by true e t = record { documents = m ∷ t.documents; bodies_are = ap₂ (λ x xs. x ∷ xs) head t.bodies_are; kept = (kept.0, t.kept); spared = inl (t.documents, refl, t.spared) }
+    by false e t = record { documents = t.documents; bodies_are = t.bodies_are; kept = t.kept; spared = inr ((λ holds. not_both (test d) (spares.0 m kept.0 head holds) e), t.spared) }
+
+-- one document in front of both
+picks_first : (f : Filter) (d : Members) (ds rest out : Documents) → ((o : Documents) → Picks f rest o → Picks f ds o) → Picks f (d ∷ rest) out → Picks f (d ∷ ds) out
+picks_first f d ds rest out more (inl h) = inl (h.0, (h.1.0, h.1.1, more h.1.0 h.1.2))
+picks_first f d ds rest out more (inr h) = inr (h.0, more out h.1)
+
+-- what a filter selects of these, it selects of all, if P holds of all that it selects
+pub spared_picks : (P : Members → Type 0) (f : Filter) (ds came out : Documents) → ((d : Members) → Selects f (document d) → P d) → Spared P ds came → Picks f came out → Picks f ds out
+spared_picks P f [] came out holds s p = subst (λ l. Picks f l out) s p
+spared_picks P f (d ∷ ds) came out holds (inl s) p = picks_first f d ds s.0 out (λ o k. spared_picks P f ds s.0 o holds s.2 k) (subst (λ l. Picks f l out) s.1 p)
+spared_picks P f (d ∷ ds) came out holds (inr s) p = inr ((λ selected. s.0 (holds d selected)), spared_picks P f ds came out holds s.1 p)
+
+-- a filter that selects all picks all
+pub all_picked : (f : Filter) (ds out : Documents) → ((d : Members) → Selects f (document d)) → Picks f ds out → out ≡ ds
+all_picked f [] out all p = p
+all_picked f (d ∷ ds) out all (inl p) = p.1.1 ∙ ap (λ l. d ∷ l) (all_picked f ds p.1.0 all p.1.2)
+all_picked f (d ∷ ds) out all (inr p) = absurd (p.0 (all d))
 
 -- what a visitor has taken since it was the first
 abbrev pub Took : {T : Type 0} → (T → T → Documents → Type 0) → FilterVisitor T → FilterVisitor T → List (List ℕ) → Type 0
 Took took first v bodies = (v.filter.now ≡ first.filter.now) × GivesPicked (took first.taker v.taker) (filter_of v.filter.now) bodies v.fault
 
-module _ {T : Type 0} (took : T → T → Documents → Type 0) (first last : FilterVisitor T) (n : List ℕ) (docs after : List TableRow) (start : took first.taker first.taker []) (faultless : first.fault ≡ None) where
+module _ {T : Type 0} (took : T → T → Documents → Type 0) (P : Members → Type 0) (first last : FilterVisitor T) (n : List ℕ) (docs after : List TableRow) (start : took first.taker first.taker []) (faultless : first.fault ≡ None) where
   abbrev Asked : Result Bool Fault → Type 0
-  Asked r = VisitsAsked (Took took first) first last n (filter_of first.filter.now) r docs after
+  Asked r = VisitsAsked (Took took first) first last n P r docs after
 
   starts : Took took first first []
   starts = (refl, subst (λ o. GivesPicked (took first.taker first.taker) (filter_of first.filter.now) [] o) (sym faultless) (gives_none (took first.taker first.taker) (filter_of first.filter.now) start))
 
-  thinned : (all : Bool) (a : DocumentTable) → Represents docs a → (w : TookAsked (Took took first) last n (filter_of first.filter.now) docs all) → Thinned (filter_of first.filter.now) (documents_of a n) (bodies_by w.test n docs)
-  thinned all a s w = thin (filter_of first.filter.now) w.test (filter (is_in n) docs) (documents_of a n) (bodies_are n a docs s.each) (rows_kept a n s.good) w.spares
+  thinned : (all : Bool) (a : DocumentTable) → Represents docs a → (w : TookAsked (Took took first) last n P docs all) → Thinned P (documents_of a n) (bodies_by w.test n docs)
+  thinned all a s w = thin P w.test (filter (is_in n) docs) (documents_of a n) (bodies_are n a docs s.each) (rows_kept a n s.good) w.spares
 
   -- nothing is behind the bodies that were taken, or the taker was done
-  ends : (all : Bool) → last.fault ≡ None → (all ≡ false → (last.fault ≢ None) ⊎ ((t : T) → IsSettled (took t last.taker))) → (w : TookAsked (Took took first) last n (filter_of first.filter.now) docs all) (ds : Documents) (bodies_are : bodies_by w.test n docs ≡ map encode ds) (p : IsFront w.taken ds) → Ends (took first.taker last.taker) p.back
+  ends : (all : Bool) → last.fault ≡ None → (all ≡ false → (last.fault ≢ None) ⊎ ((t : T) → IsSettled (took t last.taker))) → (w : TookAsked (Took took first) last n P docs all) (ds : Documents) (bodies_are : bodies_by w.test n docs ≡ map encode ds) (p : IsFront w.taken ds) → Ends (took first.taker last.taker) p.back
   ends true whole stopped w ds bodies_are p = inl (none_behind w.taken ds p (sym (append-nil w.taken) ∙ ap (λ rest. w.taken ++ rest) (sym (w.whole refl)) ∙ w.split ∙ bodies_are))
   ends false whole stopped w ds bodies_are p = by (stopped refl)
     where
@@ -215,11 +222,11 @@ module _ {T : Type 0} (took : T → T → Documents → Type 0) (first last : Fi
       by (inr settled) = inr (settled first.taker)
 
   -- the table refused
-  pub untaken : (x : Fault) → Asked (Err x) → Picked (took first.taker) n (filter_of first.filter.now) (Err (refusal (kind_of_fault x))) docs after
+  pub untaken : (x : Fault) → Asked (Err x) → PickedOf (took first.taker) n P (filter_of first.filter.now) (Err (refusal (kind_of_fault x))) docs after
   untaken x h = record { same = h.same; taken = λ a s. tt; denied = λ a s. (x, h.faults, refl) }
 
   -- all were taken, or the taker was done
-  pub taken : (all : Bool) → last.fault ≡ None → (all ≡ false → (last.fault ≢ None) ⊎ ((t : T) → IsSettled (took t last.taker))) → Asked (Ok all) → Picked (took first.taker) n (filter_of first.filter.now) (Ok last.taker) docs after
+  pub taken : (all : Bool) → last.fault ≡ None → (all ≡ false → (last.fault ≢ None) ⊎ ((t : T) → IsSettled (took t last.taker))) → Asked (Ok all) → PickedOf (took first.taker) n P (filter_of first.filter.now) (Ok last.taker) docs after
   taken all whole stopped h =
       let w = h.taken starts in
       record {
@@ -228,12 +235,12 @@ module _ {T : Type 0} (took : T → T → Documents → Type 0) (first last : Fi
             let t = thinned all a s w in
             let p = front_of w.taken w.rest t.documents (w.split ∙ t.bodies_are) in
             let y = all_taken (took first.taker last.taker) (filter_of last.filter.now) (filter_of first.filter.now) last.fault w.taken t.documents p t.kept (ap filter_of w.given.0) whole (ends all whole stopped w t.documents t.bodies_are p) w.given.1 in
-            (y.0, t.picks y.0 y.1, y.2);
+            (t.documents, t.spared, y.0, y.1, y.2);
         denied = λ a s. tt;
       }
 
   -- the visitor refused
-  pub refused_one : (all : Bool) (e : StoreError) → last.fault ≡ Some e → Asked (Ok all) → Picked (took first.taker) n (filter_of first.filter.now) (Err e) docs after
+  pub refused_one : (all : Bool) (e : StoreError) → last.fault ≡ Some e → Asked (Ok all) → PickedOf (took first.taker) n P (filter_of first.filter.now) (Err e) docs after
   refused_one all e is h =
       let w = h.taken starts in
       record {
@@ -246,6 +253,17 @@ module _ {T : Type 0} (took : T → T → Documents → Type 0) (first last : Fi
             let got = w.given.1 p.front k p.bodies_are in
             subst (λ o. MatchOption o (Taken (took first.taker last.taker) (filter_of last.filter.now) p.front) IsDenied) is got;
       }
+
+-- ---- all that a filter selects, or all that come
+
+module _ {T : Type 0} (took : T → Documents → Type 0) (n : List ℕ) (P : Members → Type 0) (f : Filter) (docs after : List TableRow) where
+  pub picked_of : (r : Result T StoreError) → ((d : Members) → Selects f (document d) → P d) → PickedOf took n P f r docs after → Picked took n f r docs after
+  picked_of (Ok t) holds h = record { same = h.same; taken = λ a s. (let y = h.taken a s in (y.2, spared_picks P f (documents_of a n) y.0 y.2 holds y.1 y.3, y.4)); denied = h.denied }
+  picked_of (Err e) holds h = record { same = h.same; taken = λ a s. tt; denied = h.denied }
+
+  pub passed_of : (r : Result T StoreError) → ((d : Members) → Selects f (document d)) → PickedOf took n P f r docs after → Passed took n P r docs after
+  passed_of (Ok t) all h = record { same = h.same; taken = λ a s. (let y = h.taken a s in (y.0, y.1, subst (took t) (all_picked f y.0 y.2 all y.3) y.4)); denied = h.denied }
+  passed_of (Err e) all h = record { same = h.same; taken = λ a s. tt; denied = h.denied }
 
 -- ---- exits
 
@@ -270,6 +288,11 @@ unpicked_moves took s u n nb f e c is good open_call m =
 -- the same said of any name
 pub picked_from : {T : Type 0} (took : T → Documents → Type 0) (s u : State) (n nb : List ℕ) (f : Filter) (r : Result T StoreError) → nb ≡ n → IsName n → Moves s u (Picked took nb f r) → Moves s u (PickedFrom took n f r)
 picked_from took s u n nb f r is good m = moved s u (Picked took nb f r) (PickedFrom took n f r) m (λ docs after h. inl (good, subst (λ x. Picked took x f r docs after) is h))
+
+pub passed_from : {T : Type 0} (took : T → Documents → Type 0) (s u : State) (n nb : List ℕ) (P : Members → Type 0) (f : Filter) (r : Result T StoreError) → nb ≡ n → IsName n → f ≡ all_of no_filters → Moves s u (PickedOf took nb P f r) → Moves s u (PassedFrom took n P r)
+passed_from took s u n nb P f r is good all m =
+    moved s u (PickedOf took nb P f r) (PassedFrom took n P r) m
+    (λ docs after h. inl (good, subst (λ x. Passed took x P r docs after) is (passed_of took nb P f docs after r (λ d. subst (λ g. Selects g (document d)) (sym all) tt) h)))
 
 -- ---- what each question keeps
 

@@ -198,9 +198,14 @@ full_is l g k e h = by (leb_tells (g + k) greatest_place)
     by (inl i) = let low : (l +ℤ pos k) <ℤ pos (2 ^ 63) = omega (arith, ints, e, i.1) in absurd (h low)
     by (inr i) = i.1
 
-goes_in : (f : Form) (docs : List TableRow) (n k b : List ℕ) (d : Members) → IsName n → IsUtf8 n → Fits d k b → find (is_row_named n k) docs ≡ None → IsRoomFor 1 docs → Does (on n (insert f (readable d))) done docs (with_row n k b docs)
-goes_in f docs n k b d good text h free room a s =
-    let r : DocumentRow = record { place = suc (greatest a); name = n; document = d } in
+-- the row of a document that goes in, after the greatest place
+abbrev pub next_row : DocumentTable → List ℕ → Members → DocumentRow
+next_row a n d = record { place = suc (greatest a); name = n; document = d }
+
+pub row_in : (f : Form) (docs : List TableRow) (n k b : List ℕ) (d : Members) (a : DocumentTable) → IsName n → IsUtf8 n → Fits d k b → find (is_row_named n k) docs ≡ None → IsRoomFor 1 docs → Represents docs a
+    → Represents (with_row n k b docs) (a ++ next_row a n d ∷ []) × Serves a (on n (insert f (readable d))) done (a ++ next_row a n d ∷ [])
+row_in f docs n k b d a good text h free room s =
+    let r : DocumentRow = next_row a n d in
     let last = last_greatest a docs s in
     let below : greatest a < greatest_place = omega (arith, room_is (table.last_place docs) (greatest a) 1 last room) in
     let step = step_in f docs n k b d a r good h free s refl refl in
@@ -211,10 +216,12 @@ goes_in f docs n k b d good text h free room a s =
       key = h.key.key ∙ ap key (sym (own_is d h.id h.has));
       body = h.body;
     } in (
-      a ++ r ∷ [],
       shows_more docs a r _ s one refl (rows_after a (a ++ r ∷ []) (on n (insert f (readable d))) done s.good h.read step),
       (None, (step, inl (r ∷ [], refl, (refl, omega (arith, below), tt)), tt)),
     )
+
+goes_in : (f : Form) (docs : List TableRow) (n k b : List ℕ) (d : Members) → IsName n → IsUtf8 n → Fits d k b → find (is_row_named n k) docs ≡ None → IsRoomFor 1 docs → Does (on n (insert f (readable d))) done docs (with_row n k b docs)
+goes_in f docs n k b d good text h free room a s = let x = row_in f docs n k b d a good text h free room s in (a ++ next_row a n d ∷ [], x.0, x.1)
 
 no_place : (f : Form) (docs : List TableRow) (n k b : List ℕ) (d : Members) → IsName n → Fits d k b → find (is_row_named n k) docs ≡ None → (IsRoomFor 1 docs → ⊥) → Does (on n (insert f (readable d))) (refused Places None) docs docs
 no_place f docs n k b d good h free full a s =

@@ -10,3 +10,5 @@ pub mod Runs
 pub mod Left
 pub mod Drafting
 pub mod Whole
+pub mod Draft
+pub mod Drafted

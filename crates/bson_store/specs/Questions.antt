@@ -41,6 +41,26 @@ IsSettled took = (out more : Documents) → AreKept more → took out → took (
 abbrev pub GivesPicked : (Documents → Type 0) → Filter → List (List ℕ) → Option StoreError → Type 0
 GivesPicked took f bodies fault = (ds : Documents) → AreKept ds → bodies ≡ map encode ds → MatchOption fault ((out : Documents) × Picks f ds out × took out) IsDenied
 
+-- of the documents none was left out of which P holds
+abbrev pub Spared : (Members → Type 0) → Documents → Documents → Type 0
+Spared P [] out = out ≡ []
+Spared P (d ∷ ds) out = ((rest : Documents) × (out ≡ d ∷ rest) × Spared P ds rest) ⊎ ((P d → ⊥) × Spared P ds out)
+
+-- whatever table the rows show, documents of a collection came, none left out of which P holds, and what the filter selects of them was taken; the rows stay
+pub record PickedOf {T : Type 0} (took : T → Documents → Type 0) (n : List ℕ) (P : Members → Type 0) (f : Filter) (result : Result T StoreError) (docs after : List TableRow) : Type 0 where
+  pub same : after ≡ docs
+  pub taken : (a : DocumentTable) → Represents docs a → IfOk result (λ t. (came : Documents) × Spared P (documents_of a n) came × (out : Documents) × Picks f came out × took t out)
+  pub denied : (a : DocumentTable) → Represents docs a → IfErr result IsDenied
+
+-- the same of a filter that selects all, and of any name: one that is bad is refused
+pub record Passed {T : Type 0} (took : T → Documents → Type 0) (n : List ℕ) (P : Members → Type 0) (result : Result T StoreError) (docs after : List TableRow) : Type 0 where
+  pub same : after ≡ docs
+  pub taken : (a : DocumentTable) → Represents docs a → IfOk result (λ t. (out : Documents) × Spared P (documents_of a n) out × took t out)
+  pub denied : (a : DocumentTable) → Represents docs a → IfErr result IsDenied
+
+abbrev pub PassedFrom : {T : Type 0} → (T → Documents → Type 0) → List ℕ → (Members → Type 0) → Result T StoreError → List TableRow → List TableRow → Type 0
+PassedFrom took n P result docs after = (IsName n × Passed took n P result docs after) ⊎ ((IsName n → ⊥) × (result ≡ Err (refusal BadName)) × (after ≡ docs))
+
 -- whatever table the rows show, what the filter selects of a collection was taken; the rows stay
 pub record Picked {T : Type 0} (took : T → Documents → Type 0) (n : List ℕ) (f : Filter) (result : Result T StoreError) (docs after : List TableRow) : Type 0 where
   pub same : after ≡ docs

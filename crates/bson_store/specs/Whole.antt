@@ -1,50 +1,58 @@
 -- Lists of changes, done whole or not at all.
-use Rattle.std.specs.Prelude.{◌≡◌, ◌⊎◌, ◌++◌, ◌∷◌, [], ℕ, List, length, Option, Some, None, Result, Ok, Err, OnErr, MatchOption, MatchResult, string_bytes}
+use Rattle.std.specs.Prelude.{◌≡◌, ◌⊎◌, ◌++◌, ◌∷◌, [], ℕ, List, length, None, Result, Ok, Err, OnErr, MatchOption, MatchResult, string_bytes}
 use Rattle.sqlite.specs.State.{State}
 use Rattle.sqlite_trees.specs.Tree.{Trees}
 use Rattle.sqlite.specs.Effect.{Database}
 use Rattle.bson_model.specs.View.{view}
 use Rattle.store_table.specs.Rows.{TableRow}
-use Rattle.store_model.specs.Reading.{Reading, ReadsBytes}
+use Rattle.store_model.specs.Reading.{Reading, ReadsBytes, unreadable}
 use Rattle.store_model.specs.State as model
-use Rattle.store_model.specs.Run.{Denial, IsDecided, Turn}
-use Rattle.store_model.specs.Table.{DocumentTable, state_of}
+use Rattle.store_model.specs.Table.{DocumentTable, Serves, state_of}
+use Rattle.store_model.specs.declared.error.ErrorKind.{ErrorKind}
 use Rattle.store_model.specs.declared.error.StoreError.{StoreError}
+use Rattle.bson_store.specs.Drafting.{EditsTo, IsFault, KeepBy, PutBy}
 use Rattle.bson_store.specs.Left.{Along, Holds}
-use Rattle.bson_store.specs.Refusals.{kind_of_fault}
 use Rattle.bson_store.specs.Shown.{Represents}
-use Rattle.store_model.specs.Refusal.{refusal}
-use Rattle.store_table.specs.declared.fault.Fault.{Fault}
-use Rattle.store_draft.specs.declared.draft.Draft.{Draft}
-use Rattle.store_draft.specs.Drafted.{IsOver, drafted}
+use Rattle.bson_store.specs.declared.draft.Draft.{Draft}
+use Rattle.bson_store.specs.Drafted.{IsOver, drafted}
 use Rattle.bson_store.specs.declared.edit.Edit.{Edit}
-use Rattle.bson_store.specs.declared.edit.Edit.TheVariants.{InsertRaw, ReplaceRaw, Remove}
+use Rattle.bson_store.specs.declared.edit.Edit.TheVariants.{InsertRaw, ReplaceRaw, PutRaw, KeepRaw, Remove}
 use Rattle.bson_store.specs.declared.edit.ListRefusal.{ListRefusal}
 
--- the command that a change is, with bytes by what they read as
-abbrev pub AsksEdit : Edit → model.Command → Type 0
-AsksEdit (InsertRaw name bytes) c = (x : Reading) × ReadsBytes bytes.items x × (c ≡ model.on (string_bytes name) (model.insert model.in_bytes x))
-AsksEdit (ReplaceRaw name bytes) c = (x : Reading) × ReadsBytes bytes.items x × (c ≡ model.on (string_bytes name) (model.replace model.in_bytes x))
-AsksEdit (Remove name id) c = c ≡ model.on (string_bytes name) (model.remove (view id))
+-- What a change does by the commands of the store, with bytes by what they read as; `By s c r t`: the command c leads from
+-- s to t with the reply r.
+abbrev pub EditBy : {X : Type 0} → (X → model.Command → model.Reply → X → Type 0) → Edit → X → model.Reply → X → Type 0
+EditBy By (InsertRaw name bytes) s r t = (x : Reading) × ReadsBytes bytes.items x × By s (model.on (string_bytes name) (model.insert model.in_bytes x)) r t
+EditBy By (ReplaceRaw name bytes) s r t = (x : Reading) × ReadsBytes bytes.items x × By s (model.on (string_bytes name) (model.replace model.in_bytes x)) r t
+EditBy By (PutRaw name bytes) s r t = (x : Reading) × ReadsBytes bytes.items x × PutBy By (string_bytes name) x s r t
+EditBy By (KeepRaw name bytes) s r t = (x : Reading) × ReadsBytes bytes.items x × KeepBy By (string_bytes name) x s r t
+EditBy By (Remove name id) s r t = By s (model.on (string_bytes name) (model.remove (view id))) r t
 
-abbrev pub AskEdits : List Edit → List model.Command → Type 0
-AskEdits [] [] = Unit {0}
-AskEdits (x ∷ xs) (c ∷ cs) = AsksEdit x c × AskEdits xs cs
-AskEdits [] (c ∷ cs) = ⊥
-AskEdits (x ∷ xs) [] = ⊥
+-- a change is decided before anything grows: by a bad name, or by bytes that can't be read
+abbrev pub IsDecidedBytes : List ℕ → List ℕ → Type 0
+IsDecidedBytes n bytes = (model.IsName n → ⊥) ⊎ ((k : ErrorKind) × ReadsBytes bytes (unreadable k))
 
--- each command is accepted, in the state that those before it leave: the last leaves t
-abbrev pub Accepted : model.State → List model.Command → model.State → Type 0
+abbrev pub IsDecidedEdit : Edit → Type 0
+IsDecidedEdit (InsertRaw name bytes) = IsDecidedBytes (string_bytes name) bytes.items
+IsDecidedEdit (ReplaceRaw name bytes) = IsDecidedBytes (string_bytes name) bytes.items
+IsDecidedEdit (PutRaw name bytes) = IsDecidedBytes (string_bytes name) bytes.items
+IsDecidedEdit (KeepRaw name bytes) = IsDecidedBytes (string_bytes name) bytes.items
+IsDecidedEdit (Remove name id) = model.IsName (string_bytes name) → ⊥
+
+-- each change is accepted, in the state that those before it leave: the last leaves t
+abbrev pub Accepted : model.State → List Edit → model.State → Type 0
 Accepted s [] t = t ≡ s
-Accepted s (c ∷ cs) t = (u : model.State) × model.Step s c model.done u × Accepted u cs t
+Accepted s (x ∷ xs) t = (u : model.State) × EditBy model.Step x s model.done u × Accepted u xs t
+
+-- a change is refused in a state: by itself, or as something is denied to it, and never if it is decided before anything grows
+abbrev pub IsRefusedIn : model.State → Edit → StoreError → Type 0
+IsRefusedIn s x e = EditBy model.Step x s (model.refused e.kind e.document) s ⊎ (IsFault e × (IsDecidedEdit x → ⊥))
 
 -- the changes lead from a to a table that the rows show
 pub record IsDone (a : DocumentTable) (edits : List Edit) (docs : List TableRow) : Type 0 where
   pub b : DocumentTable
   pub shown : Represents docs b
-  pub asked : List model.Command
-  pub asks : AskEdits edits asked
-  pub run : Accepted (state_of a) asked (state_of b)
+  pub run : Accepted (state_of a) edits (state_of b)
 
 -- those before position i are accepted, and the next one is refused in the state that they leave
 pub record StopsAt (a : DocumentTable) (edits : List Edit) (i : ℕ) (e : StoreError) : Type 0 where
@@ -53,19 +61,9 @@ pub record StopsAt (a : DocumentTable) (edits : List Edit) (i : ℕ) (e : StoreE
   pub back : List Edit
   pub split : edits ≡ front ++ x ∷ back
   pub at : length front ≡ i
-  pub asked : List model.Command
-  pub asks : AskEdits front asked
-  pub c : model.Command
-  pub it : AsksEdit x c
   pub s : model.State
-  pub run : Accepted (state_of a) asked s
-  pub denial : Option Denial
-  pub turn : Turn denial s c (model.refused e.kind e.document) s
-  pub spared : IsDecided c → denial ≡ None
-
--- memory ran out, or the database refused the whole
-abbrev pub IsFault : StoreError → Type 0
-IsFault e = (x : Fault) × (e ≡ refusal (kind_of_fault x))
+  pub run : Accepted (state_of a) front s
+  pub refuses : IsRefusedIn s x e
 
 abbrev pub WhyNot : DocumentTable → List Edit → ListRefusal → Type 0
 WhyNot a edits r = MatchOption r.position (IsFault r.error) (λ i. StopsAt a edits i r.error)
@@ -77,10 +75,8 @@ pub record DoesAll (edits : List Edit) (result : Result (Unit {0}) ListRefusal) 
 
 -- a database holds the state at the end of all changes
 pub record HoldsDone (first : Database) (a : DocumentTable) (edits : List Edit) (db : Trees) : Type 0 where
-  pub asked : List model.Command
-  pub asks : AskEdits edits asked
   pub t : model.State
-  pub run : Accepted (state_of a) asked t
+  pub run : Accepted (state_of a) edits t
   pub holds : Holds first db t
 
 abbrev pub LeftWhole : (Trees → Type 0) → Database → DocumentTable → List Edit → Result (Unit {0}) ListRefusal → Trees → Type 0
@@ -105,10 +101,10 @@ pub record DraftsAll (edits : List Edit) (draft : Draft) (docs after : List Tabl
   pub far : (a : DocumentTable) → Represents docs a → SoFar a edits draft docs
 
 -- one change: the draft has it, or why it is refused
-pub record EditsOne (x : Edit) (result : Result (Unit {0}) StoreError) (old new : Draft) (docs after : List TableRow) : Type 0 where
+abbrev pub EditsOne : Edit → Result (Unit {0}) StoreError → Draft → Draft → List TableRow → List TableRow → Type 0
+EditsOne x result = EditsTo (EditBy Serves x) (EditBy model.Step x) (IsDecidedEdit x) result
+
+-- Changes one after the other: the draft has them, or the first that is refused stops it. The rows stay.
+pub record EditsAll (edits : List Edit) (result : Result (Unit {0}) ListRefusal) (old new : Draft) (docs after : List TableRow) : Type 0 where
   pub same : after ≡ docs
-  pub told : (a : DocumentTable) → IsOver old docs → Represents (drafted old docs) a
-      → (c : model.Command) × AsksEdit x c
-      × MatchResult result
-      (λ _. IsOver new docs × ((b : DocumentTable) × Represents (drafted new docs) b × model.Step (state_of a) c model.done (state_of b)))
-      (λ e. (y : Option Denial) × Turn y (state_of a) c (model.refused e.kind e.document) (state_of a) × (IsDecided c → y ≡ None))
+  pub told : IsOver old docs → (a : DocumentTable) → Represents (drafted old docs) a → MatchResult result (λ _. SoFar a edits new docs) (WhyNot a edits)

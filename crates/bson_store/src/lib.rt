@@ -4,6 +4,8 @@
 mod batch;
 mod checking;
 mod command;
+mod draft;
+mod drafted;
 mod drafting;
 mod dump;
 mod edit;
@@ -16,6 +18,7 @@ mod names;
 mod picking;
 mod questions;
 mod row_test;
+mod rows;
 mod store;
 mod texts;
 mod walk;
@@ -35,12 +38,17 @@ pub use bson_raw::{
     RawRegexRef,
 };
 pub use command::{Command, Reply};
+pub use draft::Draft;
+pub use drafted::drafted_bodies;
+pub use drafting::get_drafted;
 pub use dump::TakeJson;
-pub use edit::{Edit, ListRefusal};
-pub use picking::{Copies, Count, Take, selected};
+pub use edit::{DraftedEdits, Edit, ListRefusal};
+pub use picking::{Copies, Count, Take, select_all, selected};
+pub use rows::push_row;
 pub use store::Store;
 pub use store_documents::Loader;
 pub use store_filter::{Filter, look_up, selects};
+pub use store_index::{Front, Range};
 pub use store_model::{ErrorKind, StoreError, laws};
 pub use texts::TakeText;
-pub use whole::apply_all;
+pub use whole::{apply_all, begin_draft, draft_edit, draft_edits, make_drafted};

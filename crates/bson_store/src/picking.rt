@@ -6,6 +6,7 @@ ghost use Rattle.bson_bytes.specs.Encode.{encode};
 ghost use Rattle.store_filter.specs.Filters.{filter_of, path_of};
 ghost use Rattle.store_filter.specs.Views.{OfWritten};
 ghost use Rattle.bson_raw.specs.View.{bytes_of as view_bytes};
+ghost use Rattle.store_model.specs.Filter.{all_of, no_filters};
 ghost use Rattle.store_model.specs.Reading.{Documents};
 ghost use Rattle.store_model.specs.State.{IsKept, only};
 ghost use Rattle.bson_store.specs.Export.{bytes_of_each};
@@ -18,6 +19,13 @@ use std::alloc::{AllocError, Global};
 use store_filter::{Filter, project, selects};
 use store_model::{ErrorKind, StoreError};
 use store_table::Visit;
+
+/// The filter that selects everything.
+pub fn select_all(alloc: Global) -> Filter
+    ensures { filter_of result ≡ all_of no_filters }
+{
+    Filter::And(Vec::new(alloc))
+}
 
 /// What is kept of the documents that a filter selects.
 ///

@@ -2,21 +2,23 @@
 
 ghost use Rattle.std.specs.Prelude.{[]};
 ghost use Rattle.store_filter.specs.Filters.{filter_of, path_of};
+ghost use Rattle.store_index.specs.Fronts.{Passes};
 ghost use Rattle.store_table.specs.Moves.{WasOpen};
 ghost use Rattle.store_documents.specs.Names.{name_bytes};
 ghost use Rattle.store_model.specs.State.{collections, count, find, on, project};
 ghost use Rattle.store_table.specs.Crash.{AddsNothing};
 ghost use Rattle.bson_store.specs.Calls.{Does, KeepsIndexes, store_state, Relates};
-ghost use Rattle.bson_store.specs.Questions.{Picked, PickedFrom, as_list, as_names};
+ghost use Rattle.bson_store.specs.Questions.{PassedFrom, Picked, PickedFrom, PickedOf, as_list, as_names};
 ghost use Rattle.bson_store.specs.Refusals.{as_number, reply_by};
 
 use crate::error::fault_refusal;
 use crate::names::names_of;
-use crate::picking::{Copies, Count, FilterVisitor, Projections, Take};
+use crate::picking::{Copies, Count, FilterVisitor, Projections, Take, select_all};
 use crate::store::{Store, good_name};
 use sqlite::Alter;
 use store_documents::Name;
 use store_filter::Filter;
+use store_index::Front;
 use store_model::StoreError;
 
 impl<S: Alter + Drop> Store<S> {
@@ -37,6 +39,42 @@ impl<S: Alter + Drop> Store<S> {
         }
     }
 
+    /// What is kept of the documents of a collection that come by a front and that a filter selects.
+    fn pick_of<T: Take + Drop>(
+        &mut self,
+        name: Name<'_>,
+        front: &Front<'_>,
+        filter: &Filter,
+        taker: T,
+    ) -> Result<T, StoreError>
+        requires { T.took taker taker [] }
+        ensures moves { Relates S.Store self.old self.new
+            (PickedOf (T.took taker) (name_bytes name.entry) (Passes front.now) (filter_of filter.now) result) }
+        ensures open { WasOpen (store_state S.Store self.old)
+            (store_state S.Store self.new) result }
+        ensures indexes { KeepsIndexes self.old self.new }
+        ensures crash { AddsNothing (store_state S.Store self.old) (store_state S.Store self.new) }
+    {
+        let mut visitor = FilterVisitor {
+            filter,
+            taker,
+            fault: None,
+        };
+        match self.table.visit_asked(name.as_str(), front, &mut visitor) {
+            Ok(_) => {}
+            Err(fault) => return Err(fault_refusal(fault)),
+        }
+        let FilterVisitor {
+            filter: _,
+            taker,
+            fault,
+        } = visitor;
+        match fault {
+            None => Ok(taker),
+            Some(error) => Err(error),
+        }
+    }
+
     /// What is kept of the documents of a collection that a filter selects.
     fn pick<T: Take + Drop>(
         &mut self,
@@ -52,24 +90,34 @@ impl<S: Alter + Drop> Store<S> {
         ensures indexes { KeepsIndexes self.old self.new }
         ensures crash { AddsNothing (store_state S.Store self.old) (store_state S.Store self.new) }
     {
-        let mut visitor = FilterVisitor {
+        let front = Front {
             filter,
-            taker,
-            fault: None,
+            ranges: &[],
         };
-        match self.table.visit_asked(name.as_str(), filter, &mut visitor) {
-            Ok(_) => {}
-            Err(fault) => return Err(fault_refusal(fault)),
-        }
-        let FilterVisitor {
-            filter: _,
-            taker,
-            fault,
-        } = visitor;
-        match fault {
-            None => Ok(taker),
-            Some(error) => Err(error),
-        }
+        self.pick_of(name, &front, filter, taker)
+    }
+
+    /// Hands documents of the collection `name` to a taker, in the collection's order, and gives it back: each that
+    /// passes the front, and maybe others, since what no index serves passes over none. One document is held at a time.
+    ///
+    /// Refused by BadName, Memory and Database, and as the taker refuses a document.
+    pub fn take_passing<T: Take + Drop>(
+        &mut self,
+        name: &str,
+        front: &Front<'_>,
+        taker: T,
+    ) -> Result<T, StoreError>
+        requires { T.took taker taker [] }
+        ensures moves { Relates S.Store self.old self.new
+            (PassedFrom (T.took taker) name.now (Passes front.now) result) }
+        ensures open { WasOpen (store_state S.Store self.old)
+            (store_state S.Store self.new) result }
+        ensures indexes { KeepsIndexes self.old self.new }
+        ensures crash { AddsNothing (store_state S.Store self.old) (store_state S.Store self.new) }
+    {
+        let name = good_name(name)?;
+        let everything = select_all(self.alloc);
+        self.pick_of(name, front, &everything, taker)
     }
 
     /// Hands the documents of the collection `name` that a filter selects to a taker, in the collection's order, and gives

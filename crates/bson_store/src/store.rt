@@ -40,7 +40,7 @@ use store_documents::{
     ID_KEY, KeptRow, Name, body_with, body_without, json_of_body, key_of_id, row_of_bytes,
     row_of_json, value_of_json,
 };
-use store_indexed::IndexedTable;
+use store_index::IndexedTable;
 use store_model::{ErrorKind, StoreError};
 use store_table::{Fault, Found};
 

@@ -4,6 +4,7 @@ use Rattle.std.specs.List.{AllByRecursion}
 use Rattle.std.specs.Prelude.{◌≤◌, ◌↔◌, IsTrue}
 use Rattle.bson_base.specs.Value.{Members, document, levels}
 use Rattle.bson_bytes.specs.Encode.{encode}
+use Rattle.bson_store.specs.Questions.{Spared}
 use Rattle.store_filter.specs.Views.{OfWritten}
 use Rattle.store_model.specs.Filter.{Filter, Selects}
 use Rattle.store_model.specs.Reading.{Documents}
@@ -32,6 +33,12 @@ pub filter_in_front : (q : Asked) (f : Filter) (ds chosen kept : Documents) → 
 filter_in_front q f [] chosen kept passes p k = subst (λ l. Keeps q l kept) p k
 filter_in_front q f (d ∷ ds) chosen kept passes (inl p) k = selected_first q ds p.1.0 kept d (λ out h. filter_in_front q f ds p.1.0 out passes.1 p.1.2 h) (subst (λ l. Keeps q l kept) p.1.1 k)
 filter_in_front q f (d ∷ ds) chosen kept passes (inr p) k = inr ((λ answers. p.0 (passes.0 answers)), filter_in_front q f ds chosen kept passes.1 p.1 k)
+
+-- the same of documents of which none was left out of which P holds
+pub kept_spared : (q : Asked) (P : Members → Type 0) (ds came kept : Documents) → AllByRecursion (λ (d : Members). Answers q (Some (document d)) → P d) ds → Spared P ds came → Keeps q came kept → Keeps q ds kept
+kept_spared q P [] came kept passes s k = subst (λ l. Keeps q l kept) s k
+kept_spared q P (d ∷ ds) came kept passes (inl s) k = selected_first q ds s.0 kept d (λ out h. kept_spared q P ds s.0 out passes.1 s.2 h) (subst (λ l. Keeps q l kept) s.1 k)
+kept_spared q P (d ∷ ds) came kept passes (inr s) k = inr ((λ answers. s.0 (passes.0 answers)), kept_spared q P ds came kept passes.1 s.1 k)
 
 -- what is told of a document that a store keeps
 told : (bytes : List ℕ) (d : Members) (P : Members → Type 0) → IsKept d → bytes ≡ encode d → OfWritten bytes (λ e. levels (document e) ≤ 200 → P e) → P d

@@ -11,6 +11,8 @@ use Rattle.store_question.specs.Asked.{Asked}
 use Rattle.store_question.specs.Reads.{Form, Reads}
 use Rattle.bson_store.specs.Refusals.{IsDenied}
 use Rattle.bson_store.specs.Shown.{Represents}
+use Rattle.bson_store.specs.Drafted.{IsOver, drafted}
+use Rattle.bson_store.specs.declared.draft.Draft.{Draft}
 use Rattle.store_asked.specs.Keeps.{Keeps}
 
 -- whatever table the rows show, what the question keeps of a collection was taken; the rows stay
@@ -26,3 +28,8 @@ AnsweredFrom took n q result docs after = (IsName n × Answered took n q result 
 -- the same of what a question of the code stands for
 abbrev pub AskedFrom : {T : Type 0} → (T → Documents → Type 0) → List ℕ → Form → Result T StoreError → List TableRow → List TableRow → Type 0
 AskedFrom took n form result docs after = (q : Asked) → Reads form q → AnsweredFrom took n q result docs after
+
+-- the same in the rows that a draft would make; the table's stay
+pub record AskedDrafted (draft : Draft) {T : Type 0} (took : T → Documents → Type 0) (n : List ℕ) (form : Form) (result : Result T StoreError) (docs after : List TableRow) : Type 0 where
+  pub same : after ≡ docs
+  pub asked : IsOver draft docs → AskedFrom took n form result (drafted draft docs) (drafted draft docs)

@@ -2,3 +2,4 @@ pub mod Arranged
 pub mod Keeps
 pub mod Asking
 pub mod Fronts
+pub mod Reads

@@ -1,8 +1,8 @@
 //! The documents that answer a question.
 
+use crate::selecting::Choose;
 use bson_raw::RawDocument;
 use bson_store::{StoreError, Take};
-use store_lookup::Choose;
 use store_question::{Question, answers};
 
 /// Hands on the documents that answer a question, and none of the others, to another taker.

@@ -2,19 +2,21 @@
 
 ghost use Rattle.bson_store.specs.Calls.{KeepsIndexes, Relates, store_state};
 ghost use Rattle.store_asked.specs.Arranged.{AreArranged};
-ghost use Rattle.store_asked.specs.Asking.{AskedFrom};
-ghost use Rattle.store_lookup.specs.Reads.{Reads as ReadsPages, Stays};
+ghost use Rattle.store_asked.specs.Asking.{AskedDrafted, AskedFrom};
+ghost use Rattle.store_asked.specs.Reads.{Reads as ReadsPages, Stays};
 ghost use Rattle.store_question.specs.Reads.{form_of};
 ghost use Rattle.store_table.specs.Crash.{AddsNothing};
 ghost use Rattle.store_table.specs.Moves.{WasOpen};
 
 use crate::asking::{look_up_answers, take_answers};
+use crate::drafted::take_drafted;
 use crate::gathering::Gathering;
-use bson_store::{Store, StoreError};
+use crate::selecting::SelectedRows;
+use crate::store::ReadOnlyStore;
+use bson_store::{DraftedEdits, Store, StoreError};
 use sqlite::Alter;
 use sqlite_pages::Pages;
 use std::alloc::Global;
-use store_lookup::{ReadOnlyStore, SelectedRows};
 use store_question::Question;
 use store_sorted::Arrangement;
 
@@ -39,6 +41,31 @@ pub fn find_arranged<S: Alter + Drop>(
 {
     let gathering = Gathering::new(alloc, arrangement);
     let gathered = take_answers(alloc, store, name, question, gathering)?;
+    let bodies = gathered.into_bodies()?;
+    Ok(bodies)
+}
+
+/// The same of the documents as they are after the changes of a draft. All bodies of the collection are held meanwhile.
+///
+/// Refused by BadName, Memory and Database.
+pub fn find_drafted<S: Alter + Drop>(
+    alloc: Global,
+    store: &mut Store<S>,
+    edits: &DraftedEdits,
+    name: &str,
+    question: &Question,
+    arrangement: &Arrangement,
+) -> Result<Vec<Vec<u8>>, StoreError>
+    ensures moves { Relates S.Store store.old store.new
+        (AskedDrafted edits.now.draft (AreArranged arrangement.now) name.now
+        (form_of question.now) result) }
+    ensures open { WasOpen (store_state S.Store store.old)
+        (store_state S.Store store.new) result }
+    ensures indexes { KeepsIndexes store.old store.new }
+    ensures crash { AddsNothing (store_state S.Store store.old) (store_state S.Store store.new) }
+{
+    let gathering = Gathering::new(alloc, arrangement);
+    let gathered = take_drafted(store, edits, name, question, gathering)?;
     let bodies = gathered.into_bodies()?;
     Ok(bodies)
 }

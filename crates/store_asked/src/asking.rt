@@ -3,23 +3,25 @@
 ghost use Rattle.std.specs.Prelude.{[]};
 ghost use Rattle.bson_store.specs.Calls.{KeepsIndexes, Relates, store_state};
 ghost use Rattle.store_asked.specs.Asking.{AskedFrom};
-ghost use Rattle.store_lookup.specs.Reads.{Reads as ReadsPages, Stays};
+ghost use Rattle.store_asked.specs.Reads.{Reads as ReadsPages, Stays};
 ghost use Rattle.store_question.specs.Reads.{form_of};
 ghost use Rattle.store_table.specs.Crash.{AddsNothing};
 ghost use Rattle.store_table.specs.Moves.{WasOpen};
 
 use crate::answering::Answering;
-use crate::front::{filter_in_front, select_all};
-use bson_store::{Store, StoreError, Take};
+use crate::front::{filter_in_front, ranges_in_front};
+use crate::selecting::{Choose, SelectedRows};
+use crate::store::ReadOnlyStore;
+use bson_store::{Store, StoreError, Take, select_all};
 use sqlite::Alter;
 use sqlite_pages::Pages;
 use std::alloc::Global;
-use store_lookup::{Choose, ReadOnlyStore, SelectedRows};
+use store_index::Front;
 use store_question::Question;
 
 /// Hands the documents of the collection `name` that answer a question to a taker, in the collection's order, and gives
-/// it back. One document is held at a time. An index on a path that the question asks about by equality, or by the kind
-/// of an array or a decimal, has only the documents read that may answer.
+/// it back. One document is held at a time. An index on a path that the question asks about by equality, by the kind of
+/// an array or a decimal, or by a range of numbers, texts or dates, has only the documents read that may answer.
 ///
 /// Refused by BadName, Memory and Database, and as the taker refuses a document.
 pub fn take_answers<S: Alter + Drop, T: Take + Drop>(
@@ -38,8 +40,13 @@ pub fn take_answers<S: Alter + Drop, T: Take + Drop>(
     ensures crash { AddsNothing (store_state S.Store store.old) (store_state S.Store store.new) }
 {
     let filter = filter_in_front(alloc, store, name, question);
+    let ranges = ranges_in_front(alloc, store, name, question);
+    let front = Front {
+        filter: &filter,
+        ranges: ranges.as_slice(),
+    };
     let answering = Answering { question, taker };
-    let taken = store.take_selected(name, &filter, answering)?;
+    let taken = store.take_passing(name, &front, answering)?;
     Ok(taken.taker)
 }
 

@@ -1,8 +1,8 @@
 //! The first documents in an order.
 
+use crate::selecting::Choose;
 use bson_raw::RawDocument;
 use bson_store::{StoreError, Take};
-use store_lookup::Choose;
 use store_sorted::TopN;
 
 /// Keeps the first of the documents in the order of keys, and no more of them than are wanted.

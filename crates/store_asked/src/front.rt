@@ -1,24 +1,16 @@
-//! The filter by which a store is read for a question.
+//! The filter and the ranges by which a store is read for a question.
 
-ghost use Rattle.std.specs.Prelude.{◌≡◌};
 ghost use Rattle.store_filter.specs.Filters.{filter_of};
-ghost use Rattle.store_model.specs.Filter.{all_of, no_filters};
 ghost use Rattle.store_question.specs.Reads.{form_of};
-ghost use Rattle.store_asked.specs.Fronts.{Fronts};
+ghost use Rattle.store_asked.specs.Fronts.{Bounds, Fronts};
 
-use bson_store::Store;
+use bson_store::{Store, select_all};
 use sqlite::Alter;
 use std::alloc::Global;
 use store_filter::Filter;
+use store_index::Range;
 use store_question::Question;
-use store_question_front::prefilter;
-
-/// The filter that selects everything.
-pub(crate) fn select_all(alloc: Global) -> Filter
-    ensures { filter_of result ≡ all_of no_filters }
-{
-    Filter::And(Vec::new(alloc))
-}
+use store_question_front::{prefilter, ranges_of};
 
 /// Whether the collection `name` has an index on a path that the question names. If it has none, no index serves the
 /// question, and a filter in front of it would only cost time.
@@ -60,5 +52,24 @@ pub(crate) fn filter_in_front<S: Alter + Drop>(
     match prefilter(alloc, question) {
         Ok(filter) => filter,
         Err(_) => select_all(alloc),
+    }
+}
+
+/// Ranges in each of which each document lies that answers the question, so that an index can serve them: none, if no
+/// index is on a path of the question, or if there is no memory for them.
+pub(crate) fn ranges_in_front<S: Alter + Drop>(
+    alloc: Global,
+    store: &Store<S>,
+    name: &str,
+    question: &Question,
+) -> Vec<Range>
+    ensures { Bounds (form_of question.now) result.items }
+{
+    if !is_indexed(store, name, question) {
+        return Vec::new(alloc);
+    }
+    match ranges_of(alloc, question) {
+        Ok(ranges) => ranges,
+        Err(_) => Vec::new(alloc),
     }
 }

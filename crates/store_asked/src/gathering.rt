@@ -7,10 +7,10 @@ ghost use Rattle.store_sorted.specs.Bodies.{AreBodies, OfBody};
 ghost use Rattle.store_asked.specs.Arranged.{AreArranged};
 
 use crate::first::First;
+use crate::selecting::Choose;
 use bson_raw::RawDocument;
 use bson_store::{StoreError, Take};
 use std::alloc::{AllocError, Global};
-use store_lookup::Choose;
 use store_sorted::{Arrangement, TopN, into_window, sort, window};
 
 /// Puts a copy of a body last.

@@ -5,13 +5,24 @@
 mod answering;
 mod arranging;
 mod asking;
+mod drafted;
 mod first;
 mod front;
 mod gathering;
+mod joining;
 pub mod laws;
+mod names;
+mod opening;
+mod refusing;
+mod selecting;
+mod store;
 
 pub use answering::Answering;
-pub use arranging::{find_arranged, look_up_arranged};
+pub use arranging::{find_arranged, find_drafted, look_up_arranged};
 pub use asking::{look_up_answers, take_answers};
+pub use drafted::take_drafted;
 pub use first::First;
 pub use gathering::Gathering;
+pub use opening::open_files;
+pub use selecting::{Choose, SelectedRows};
+pub use store::ReadOnlyStore;

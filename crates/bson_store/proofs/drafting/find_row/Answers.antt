@@ -1,10 +1,10 @@
 use Rattle.std.proofs.Common.{Ok, Err}
 use Rattle.std.proofs.lemmas.Result.{err_from_is_err_and}
 use Rattle.store_table.specs.Moves.{FindsRow}
-use Rattle.store_indexed.specs.Table.{indexed_state as table_state}
+use Rattle.store_index.specs.Table.{indexed_state as table_state}
 use Rattle.bson_store.specs.Calls.{store_state}
 use Rattle.bson_store.proofs.MoveLemmas.{moved}
-use Rattle.bson_store.proofs.EditLemmas.{finds_ok, finds_err, finds_memory}
+use Rattle.bson_store.proofs.EditLemmas.{finds_ok, finds_err}
 use Rattle.bson_store.proofs.drafting.find_row.Goals as goal
 
 pub returns-in_err-found-clause-moves : goal.returns-in_err-found-clause-moves

@@ -1,12 +1,10 @@
 use Rattle.std.specs.Cow.{cow_slice_items}
-use Rattle.std.proofs.Common.{Ok, Err, Some, None, subst}
-use Rattle.store_model.specs.State.{insert}
-use Rattle.store_model.specs.Refusal.{refusal}
+use Rattle.std.proofs.Common.{Ok, Err, subst}
 use Rattle.store_documents.specs.Names.{name_bytes}
 use Rattle.bson_store.specs.Calls.{store_state}
 use Rattle.bson_store.proofs.MoveLemmas.{moved}
 use Rattle.bson_store.proofs.ServeLemmas.{written_fits}
-use Rattle.bson_store.specs.Drafting.{EditsRead, FindsDrafted}
+use Rattle.bson_store.specs.Drafting.{FindsDrafted}
 use Rattle.bson_store.proofs.EditLemmas.{insert_unfound, insert_duplicate, insert_full, insert_added}
 use Rattle.bson_store.proofs.drafting.insert_row.Goals as goal
 
@@ -38,4 +36,4 @@ returns-in-Ok-add-clause-moves g c d read told =
     let k = c.args.row.now.key.items in
     moved (store_state g.S.Store c.args.store.now) (store_state g.S.Store c.find_row.new.store) (FindsDrafted n k c.args.draft.now (Ok c.in-Ok.found)) _ (rw (c.as_str-collection.ensures.text, c.as_slice-key.ensures.value) at c.in-Ok.ensures.moves)
     (λ docs after h. insert_added n k (cow_slice_items c.args.row.now.body) d c.args.draft.now c.add.new.self docs after (rw c.as_str-collection.ensures.text at c.as_str-collection.ensures.named) (rw c.as_str-collection.ensures.text at c.as_str-collection.utf8) (written_fits d c.args.row.now read told)
-    (subst (λ o. FindsDrafted n k c.args.draft.now (Ok o) docs after) c.in_default.is h) (rw (c.as_str-collection.ensures.text, c.as_slice-key.ensures.value, c.as_slice-body.ensures.value) at c.in-Ok-add.ensures.more) (rw (c.as_str-collection.ensures.text, c.as_slice-key.ensures.value) at c.in-Ok-add.ensures.over))
+    (subst (λ o. FindsDrafted n k c.args.draft.now (Ok o) docs after) c.in_default.is h) (rw (c.as_str-collection.ensures.text, c.as_slice-key.ensures.value, c.as_slice-body.ensures.value) at c.in-Ok-add.ensures.more) (rw (c.as_str-collection.ensures.text, c.as_slice-key.ensures.value) at c.in-Ok-add.ensures.over) c.in-Ok-add.ensures.room)

@@ -1,8 +1,7 @@
-use Rattle.std.proofs.Common.{Ok, Err, Some, None, ap, subst}
+use Rattle.std.proofs.Common.{Ok, Err, ap, subst}
 use Rattle.std.proofs.lemmas.Result.{err_from_is_err_and}
 use Rattle.bson_model.specs.View.{view}
 use Rattle.store_documents.specs.Names.{name_bytes}
-use Rattle.store_model.specs.State.{remove, on}
 use Rattle.bson_store.specs.Calls.{store_state}
 use Rattle.bson_store.proofs.MoveLemmas.{rests, moved}
 use Rattle.bson_store.specs.Drafting.{FindsDrafted}

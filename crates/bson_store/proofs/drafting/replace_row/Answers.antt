@@ -1,5 +1,5 @@
 use Rattle.std.specs.Cow.{cow_slice_items}
-use Rattle.std.proofs.Common.{Ok, Err, Some, None, subst}
+use Rattle.std.proofs.Common.{Ok, Err, subst}
 use Rattle.store_documents.specs.Names.{name_bytes}
 use Rattle.bson_store.specs.Calls.{store_state}
 use Rattle.bson_store.proofs.MoveLemmas.{moved}

@@ -1,47 +1,15 @@
-use Rattle.std.proofs.Common.{Ok, Err, None, refl}
 use Rattle.store_filter.specs.Filters.{filter_of}
-use Rattle.store_indexed.specs.Asking.{VisitsAsked}
-use Rattle.store_indexed.specs.Table.{indexed_state as table_state}
 use Rattle.store_documents.specs.Names.{name_bytes}
 use Rattle.bson_store.specs.Calls.{store_state}
 use Rattle.bson_store.specs.Questions.{Picked}
-use Rattle.bson_store.specs.Refusals.{kind_of_fault}
-use Rattle.store_model.specs.Refusal.{refusal}
-use Rattle.bson_store.specs.declared.picking.FilterVisitor.{FilterVisitor}
 use Rattle.bson_store.proofs.MoveLemmas.{moved}
-use Rattle.bson_store.proofs.SelectLemmas.{Took, taken, refused_one, untaken}
+use Rattle.bson_store.proofs.SelectLemmas.{picked_of}
 use Rattle.bson_store.proofs.store.Store.pick.Goals as goal
 
-pub returns-in-Err-clause-moves : goal.returns-in-Err-clause-moves
-returns-in-Err-clause-moves g c =
-    let took = g.T.Take.took in
-    let first : FilterVisitor g.row.T.Denot = record { filter = c.args.filter; taker = c.args.taker; fault = None } in
-    let last = c.visit_asked.new.visitor in
+pub returns-clause-moves : goal.returns-clause-moves
+returns-clause-moves g c =
+    let took = g.T.Take.took c.args.taker in
     let n = name_bytes c.args.name in
-    let x = c.in-Err.fault in
-    rw c.fault_refusal.ensures
-    (moved (store_state g.S.Store c.args.self.now) (table_state g.S.Store c.visit_asked.new.self) (VisitsAsked (Took took first) first last n (filter_of c.args.filter.now) (Err x)) (Picked (took c.args.taker) n (filter_of c.args.filter.now) (Err (refusal (kind_of_fault x))))
-    (rw c.as_str.ensures.text at c.in-Err.ensures.moves)
-    (λ docs after h. untaken took first last n docs after c.requires refl x h))
-
-pub returns-in-None-clause-moves : goal.returns-in-None-clause-moves
-returns-in-None-clause-moves g c =
-    let took = g.T.Take.took in
-    let first : FilterVisitor g.row.T.Denot = record { filter = c.args.filter; taker = c.args.taker; fault = None } in
-    let last = c.visit_asked.new.visitor in
-    let n = name_bytes c.args.name in
-    let all = c.in-Ok.field-0 in
-    moved (store_state g.S.Store c.args.self.now) (table_state g.S.Store c.visit_asked.new.self) (VisitsAsked (Took took first) first last n (filter_of c.args.filter.now) (Ok all)) (Picked (took c.args.taker) n (filter_of c.args.filter.now) (Ok last.taker))
-    (rw c.as_str.ensures.text at c.in-Ok.ensures.moves)
-    (λ docs after h. taken took first last n docs after c.requires refl all c.in-None.is c.in-Ok.ensures.stopped h)
-
-pub returns-in-Some-clause-moves : goal.returns-in-Some-clause-moves
-returns-in-Some-clause-moves g c =
-    let took = g.T.Take.took in
-    let first : FilterVisitor g.row.T.Denot = record { filter = c.args.filter; taker = c.args.taker; fault = None } in
-    let last = c.visit_asked.new.visitor in
-    let n = name_bytes c.args.name in
-    let all = c.in-Ok.field-0 in
-    moved (store_state g.S.Store c.args.self.now) (table_state g.S.Store c.visit_asked.new.self) (VisitsAsked (Took took first) first last n (filter_of c.args.filter.now) (Ok all)) (Picked (took c.args.taker) n (filter_of c.args.filter.now) (Err c.in-Some.error))
-    (rw c.as_str.ensures.text at c.in-Ok.ensures.moves)
-    (λ docs after h. refused_one took first last n docs after c.requires refl all c.in-Some.error c.in-Some.is h)
+    let f = filter_of c.args.filter.now in
+    moved (store_state g.S.Store c.args.self.now) (store_state g.S.Store c.pick_of.new.self) _ (Picked took n f c.pick_of.result) c.pick_of.ensures.moves
+    (λ docs after h. picked_of took n _ f docs after c.pick_of.result (λ d selected. (selected, tt)) h)

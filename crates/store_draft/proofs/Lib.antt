@@ -1,3 +1,0 @@
-pub mod DraftLemmas
-pub mod ApartLemmas
-pub mod OverLemmas
