@@ -33,7 +33,7 @@ _fallowtime_files() {
 
 _fallowtime() {
     local word=${COMP_WORDS[COMP_CWORD]} before=${COMP_WORDS[COMP_CWORD - 1]} options=--wait front
-    local commands=(insert put replace get set unset update replace-one delete find-and-update find-and-replace find-and-delete remove find count distinct import export drop rename copy collections check backup import-all export-all edit)
+    local commands=(insert put replace get set unset update replace-one delete find-and-update find-and-replace find-and-delete remove find count distinct import export drop rename copy collections check backup apply import-all export-all edit)
     COMPREPLY=()
     if [ "$COMP_CWORD" -eq 1 ]; then
         case $word in -*) _fallowtime_among "$word" --help --version --explain ;; *) _fallowtime_files "$word" ;; esac
@@ -68,13 +68,14 @@ _fallowtime() {
     find-and-update | find-and-replace) front=6 options="--sort --skip --limit --fields --without --after --canonical --bson --wait" ;;
     find-and-delete) front=5 options="--sort --skip --limit --fields --without --canonical --bson --wait" ;;
     find) front=4 options="--sort --skip --limit --fields --without --canonical --bson --pretty --wait" ;;
-    count) front=4 ;;
+    count) front=4 options="--skip --limit --wait" ;;
     distinct) front=5 options="--count --canonical --wait" ;;
-    import) front=4 options="--json --wait" ;;
+    import) front=4 options="--json --upsert --skip-existing --batch --wait" ;;
     edit) front=5 ;;
     export | drop | backup | import-all | export-all) front=4 ;;
-    rename | copy) front=5 ;;
-    collections | check) front=3 ;;
+    rename) front=5 options="--drop --wait" ;;
+    copy) front=5 ;;
+    collections | check | apply) front=3 ;;
     *) return ;;
     esac
     case $before in --wait | --sort | --skip | --limit | --fields | --without) [ "$COMP_CWORD" -le "$front" ] || return ;; esac

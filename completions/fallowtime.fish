@@ -14,7 +14,7 @@ end
 
 # The options of a command, except for those that were typed, with what its help says of them.
 function __fallowtime_options --argument-names program command
-    for line in (__fallowtime_help $program $command --help | string replace -rf '^  (--[a-z]+)(?: [A-Z]+)?  +(.*)$' '$1\t$2')
+    for line in (__fallowtime_help $program $command --help | string replace -rf '^  (--[a-z-]+)(?: [A-Z]+)?  +(.*)$' '$1\t$2')
         contains -- (string split -f 1 \t -- $line) (commandline -opc); or echo $line
     end
 end

@@ -18,7 +18,7 @@ _fallowtime_collections() {
 _fallowtime_options() {
     local -a told
     local line
-    for line in ${(f)"$(print -rl -- $help | sed -nE 's/^  (--[a-z]+)( [A-Z]+)?  +(.*)/\1:\3/p')"}; do
+    for line in ${(f)"$(print -rl -- $help | sed -nE 's/^  (--[a-z-]+)( [A-Z]+)?  +(.*)/\1:\3/p')"}; do
         (( ${words[(Ie)${line%%:*}]} )) || told+=($line)
     done
     _describe option told

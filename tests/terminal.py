@@ -114,6 +114,13 @@ holds("printed as lines", [json.loads(line) for line in run("shop.db", "find", "
 (HERE / "orders.bson").write_bytes(subprocess.run([PROGRAM, "shop.db", "export", "orders"], stdout=subprocess.PIPE, cwd=HERE).stdout)
 BSON = (HERE / "orders.bson").read_bytes()
 holds("BSON of a file", run("a.db", "import", "orders", "orders.bson"), (0, "3\n", ""))
+holds("in batches", run("batches.db", "import", "orders", "orders.jsonl", "--batch", "2"), (0, "2\n3\n", ""))
+holds("a batch that is refused", run("batches.db", "import", "orders", "--json", "--batch", "1", given='{"_id":9}\n' + LINES), (1, "1\n", "refused: DuplicateId line 1 _id 1\n"))
+holds("those before it are in", run("batches.db", "count", "orders"), (0, "4\n", ""))
+holds("batches over what is there", run("batches.db", "import", "orders", "orders.jsonl", "--upsert", "--batch", "50"), (0, "3\n", ""))
+for words in ["--batch"], ["--batch", "0"], ["--batch", "x"], ["--batch", "1", "--batch", "1"]:
+    holds(f"{words}", run("batches.db", "import", "orders", "orders.jsonl", *words), (2, "", "words: usage\n"))
+holds("batches of BSON", run("batches.db", "import", "orders", "orders.bson", "--batch", "1"), (1, "", "fallowtime: --batch takes lines of JSON: bson_json --canonical < FILE.bson | fallowtime FILE import COLL --json --batch N\n"))
 holds("a file of another name, said to be JSON", run("b.db", "import", "orders", "/dev/fd/0", "--json", given=LINES), (0, "3\n", ""))
 holds("standard input", run("b.db", "import", "others", "-", "--json", "--wait", "1", given=LINES), (0, "3\n", ""))
 holds("standard input without a file", run("b.db", "import", "more", "--json", given=LINES), (0, "3\n", ""))

@@ -129,6 +129,39 @@ open_items() {
     rm -f "$lines"
 }
 
+# A word as the shell has to be given it.
+quoted() { printf " '%s'" "$(printf '%s\n' "$1" | sed "s/'/'\\\\''/g")"; }
+
+# Imports lines of JSON so many at a time, each batch in one step, and prints after each how many documents are in. It ends with the first
+# batch that is refused.
+import_batches() {
+    number=$1
+    shift
+    filter=
+    for word in "$program" "$@"; do filter=$filter$(quoted "$word"); done
+    {
+        status=$({
+            { SHELL=/bin/sh split -l "$number" --filter="$filter 2>&5 3>&- 4>&- 5>&-" - 2>/dev/null 4>&-; echo "$?" >&3; } |
+                LC_ALL=C awk '{ print sum += $1; fflush() }' >&4 3>&- 4>&- 5>&-
+        } 3>&1)
+    } 4>&1 5>&2
+    exit "${status:-1}"
+}
+
+# Takes the option --batch and its number, which the program hasn't, out of the options of an import, and sets `batch` and `options`.
+take_batch() {
+    batch=
+    options=
+    while [ $# -gt 0 ]; do
+        case $1,${2-} in
+        --batch, | --batch,*[!0-9]* | --batch,0*) options="$options --batch" ;;
+        --batch,*) [ -z "$batch" ] || options="$options --batch"; batch=$2; shift ;;
+        *) options=$options$(quoted "$1") ;;
+        esac
+        shift
+    done
+}
+
 # Imports from a file that is named behind the collection: of JSON, if its name says so.
 import_file() {
     [ $# -ge 3 ] || return 0
@@ -147,6 +180,13 @@ import_file() {
     # (a terminal or /dev/null is no input, and a file of that name is one)
     [ ! -c /dev/stdin ] || [ ! -f "$collection" ] || fail "COLL is missing in front of the file: fallowtime FILE import COLL $collection"
     [ ! -t 0 ] || say "documents are read from the terminal, until Ctrl-D; import COLL FILE reads a file"
+    take_batch "$@"
+    eval "set -- $options"
+    case $batch," $* " in
+    ,*) ;;
+    *" --json "*) import_batches "$batch" "$store" import "$collection" "$@" ;;
+    *) fail "--batch takes lines of JSON: bson_json --canonical < FILE.bson | fallowtime FILE import COLL --json --batch N" ;;
+    esac
     run "$store" import "$collection" "$@"
 }
 

@@ -21,6 +21,7 @@ from ._errors import (BulkWriteError, CollectionInvalid, ConfigurationError, Con
 from ._index import ASCENDING, DESCENDING
 from ._results import BulkWriteResult, DeleteResult, InsertManyResult, InsertOneResult, ReturnDocument, UpdateResult
 from ._store import Store, open
+from ._transaction import Transaction
 from ._values import (Binary, Code, DatetimeMS, DBPointer, Int64, MaxKey, MinKey, ObjectId, Regex, Symbol, Timestamp,
                       Undefined)
 from .operations import DeleteMany, DeleteOne, IndexModel, InsertOne, ReplaceOne, UpdateMany, UpdateOne
@@ -33,8 +34,8 @@ __all__ = [
     "DeleteMany", "DeleteOne", "DeleteResult", "DuplicateKeyError", "Ended", "FallowtimeError", "IndexModel",
     "InsertManyError", "InsertManyResult", "InsertOne", "InsertOneResult", "Int64", "InvalidName", "InvalidOperation",
     "InvalidWriteError", "MaxKey", "MinKey", "MongoClient", "ObjectId", "OperationFailure", "Refused", "RefusedWrite",
-    "Regex", "ReplaceOne", "ReturnDocument", "Store", "Symbol", "Timestamp", "Undefined", "UpdateMany", "UpdateOne",
-    "UpdateResult", "WriteError", "open",
+    "Regex", "ReplaceOne", "ReturnDocument", "Store", "Symbol", "Timestamp", "Transaction", "Undefined", "UpdateMany",
+    "UpdateOne", "UpdateResult", "WriteError", "open",
 ]
 
 # They are of this package, as tracebacks and pickle name them, wherever in it they are written.

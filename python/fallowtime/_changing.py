@@ -237,20 +237,22 @@ class Changing(Reading):
             self.drop_indexes()
 
     def rename(self, new_name: str, dropTarget: bool = False, **options: Any) -> Dict[str, Any]:
-        """Gives its documents, in their order and in one step, and its indexes to the collection of another name.
+        """Gives its documents, in their order and in one step, and its indexes to the collection of another name. With
+        `dropTarget` the documents and the indexes of that one are removed, the documents in the same step.
 
-        OperationFailure if there is no document, or if the other collection has one.
+        OperationFailure if there is no document, or if the other collection has one that isn't removed, or is this one.
         """
         test_options("rename", options)
-        if dropTarget:
-            refuse("dropTarget of rename", "to remove a collection and to rename another one would be two steps")
+        dropping = ['{"drop":true}'] if dropTarget else []
         with self._session.lock:
             try:
-                self._ask("rename", encode_text(new_name))
+                self._ask("rename", encode_text(new_name), *dropping)
             except Refused as refused:
                 if refused.kind not in OF_RENAME:
                     raise
                 raise OperationFailure(*OF_RENAME[refused.kind]) from None
+            if dropTarget:
+                self._store[new_name].drop_indexes()
             self._rename_indexes(new_name)
         return {"ok": 1.0}
 

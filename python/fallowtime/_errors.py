@@ -114,21 +114,26 @@ class Refused(OperationFailure):
     Only after the kinds ``"Memory"`` and ``"Database"``, for which the machine is at fault, the change may be there.
     `kind` is the name of the refusal, such as ``"NotFound"``; ``fallowtime --explain KIND`` says what each means, and
     what to do. `document` is the place, from 0, of the document at fault of several, `key` the path of the key at
-    fault, and `at` what of a request can't be read if `kind` is ``"Usage"``. Each is None if there is none.
+    fault, `at` what of a request can't be read if `kind` is ``"Usage"``, and `request` the place, from 0, of the one at
+    fault of a transaction. Each is None if there is none.
     """
 
     def __init__(
-        self, kind: str, document: Optional[int] = None, key: Optional[str] = None, at: Optional[str] = None
+        self, kind: str, document: Optional[int] = None, key: Optional[str] = None, at: Optional[str] = None,
+        request: Optional[int] = None
     ) -> None:
-        Exception.__init__(self, kind, document, key, at)
+        Exception.__init__(self, kind, document, key, at, request)
         self._code, self._details = CODES.get(kind), None
         self.kind = kind
         self.document = document
         self.key = key
         self.at = at
+        self.request = request
 
     def __str__(self) -> str:
         text = self.kind
+        if self.request is not None:
+            text += f" request {self.request}"
         if self.document is not None:
             text += f" document {self.document}"
         if self.key is not None:
@@ -217,7 +222,8 @@ class Ended(ConnectionFailure):
 
 
 def refusal(
-    kind: str, document: Optional[int] = None, key: Optional[str] = None, at: Optional[str] = None
+    kind: str, document: Optional[int] = None, key: Optional[str] = None, at: Optional[str] = None,
+    request: Optional[int] = None
 ) -> Refused:
     """The error of a kind."""
     if document is None and at is not None and at.startswith("document "):
@@ -225,7 +231,7 @@ def refusal(
     made: Type[Refused] = Refused
     if kind in OF_WRITES:
         made = DuplicateKeyError if kind == "DuplicateId" else RefusedWrite
-    return made(kind, document, key, at)
+    return made(kind, document, key, at, request)
 
 
 # The classes of both packages, by those of this one.

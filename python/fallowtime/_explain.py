@@ -15,6 +15,9 @@ from ._query import are_operators
 FOUND = frozenset(["$numberInt", "$numberLong", "$oid", "$date", "$symbol"])
 # The kinds of which an index has a list: arrays and decimals, by their names and numbers.
 LISTED = ("array", "decimal", 4, 19)
+# Operators that ask for what lies on one side of a value, and the typed values of which an index finds that.
+RANGES = frozenset(["$gt", "$gte", "$lt", "$lte"])
+ORDERED = frozenset(["$numberInt", "$numberLong", "$numberDouble", "$numberDecimal", "$symbol", "$date"])
 # Operators that ask for what isn't there, by which no index on their path is looked for.
 NEGATED = frozenset(["$ne", "$nin", "$not"])
 
@@ -62,19 +65,24 @@ def _conditions(value: Tree) -> List[Tuple[str, Tree]]:
     return list(value.items()) if are_operators(value) else [("$eq", value)]
 
 
-def _serves(index: List[str], query: Query) -> bool:
-    """Whether an index on the path of these keys serves a query: one of what it asks together."""
-    return any(_entry_serves(index, path, value) for path, value in query.items())
+def _serves(index: List[str], query: Query, with_ranges: bool = True) -> bool:
+    """Whether an index on the path of these keys serves a query: one of what it asks together. Ranges it serves only
+    where they are asked of every document."""
+    return any(_entry_serves(index, path, value, with_ranges) for path, value in query.items())
 
 
-def _entry_serves(index: List[str], path: str, value: Tree) -> bool:
-    if path in ("$and", "$or"):
-        served = [_serves(index, inner) for inner in value]
-        return any(served) if path == "$and" else all(served)
+def _entry_serves(index: List[str], path: str, value: Tree, with_ranges: bool) -> bool:
+    if path == "$and":
+        return any(_serves(index, inner, with_ranges) for inner in value)
+    if path == "$or":
+        return all(_serves(index, inner, with_ranges=False) for inner in value)
     keys = path.split(".")
     if path.startswith("$") or index[:len(keys)] != keys:
         return False
-    return any(_condition_serves(operator, operand, index == keys) for operator, operand in _conditions(value))
+    is_whole = index == keys
+    ranged = with_ranges and is_whole
+    return any(_condition_serves(operator, operand, is_whole) or ranged and _is_range(operator, operand)
+               for operator, operand in _conditions(value))
 
 
 def _condition_serves(operator: str, operand: Tree, is_whole: bool) -> bool:
@@ -89,6 +97,12 @@ def _condition_serves(operator: str, operand: Tree, is_whole: bool) -> bool:
     if operator == "$all":
         return not operand or is_whole and any(_is_found(value) for value in operand)
     return False
+
+
+def _is_range(operator: str, operand: Tree) -> bool:
+    """Whether a condition asks for what is less or greater than a number, a text or a date."""
+    typed = isinstance(operand, Mapping) and len(operand) == 1 and next(iter(operand)) in ORDERED
+    return operator in RANGES and (typed or isinstance(operand, str))
 
 
 def _kind_of(tree: Tree) -> Any:

@@ -150,10 +150,14 @@ class Requests:
             raise
 
     def _result(self, answer: Any) -> UpdateResult:
-        """How many documents a change found and changed, or the `_id` of one that it put in."""
-        if "upserted" not in answer:
-            return UpdateResult(answer["matched"], answer["changed"])
-        return UpdateResult(0, 0, self._decoder.value(answer["upserted"]), did_upsert=True)
+        return update_result(answer, self._decoder)
+
+
+def update_result(answer: Any, decoder: Decoder) -> UpdateResult:
+    """How many documents a change found and changed, or the `_id` of one that it put in."""
+    if "upserted" not in answer:
+        return UpdateResult(answer["matched"], answer["changed"])
+    return UpdateResult(0, 0, decoder.value(answer["upserted"]), did_upsert=True)
 
 
 def is_stricter(refused: Refused) -> bool:

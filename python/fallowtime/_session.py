@@ -89,7 +89,7 @@ class Session:
             answer = self._answer(line + b"\n", None)
         kind = answer.get("error")
         if kind is not None:
-            raise refusal(kind, answer.get("document"), answer.get("key"), answer.get("at"))
+            raise refusal(kind, *map(answer.get, ("document", "key", "at", "request")))
         return answer
 
     def test_changes(self) -> None:

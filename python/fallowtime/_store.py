@@ -13,6 +13,7 @@ from ._index import Index
 from ._program import absolute, find_program, run
 from ._reader import Reader
 from ._session import Session
+from ._transaction import Transaction
 
 if TYPE_CHECKING:
     from ._client import MongoClient
@@ -119,6 +120,19 @@ class Store(WithAbsent):
         test_options("list_collection_names", options)
         names: List[str] = self._session.ask("collections")["names"]
         return names
+
+    def transaction(self) -> Transaction:
+        """Changes that are made in one step, at the end of a `with` block::
+
+            with store.transaction() as changes:
+                changes.set("accounts", "alice", "balance", 70)
+                changes.set("accounts", "bob", "balance", 130)
+
+        All of them are made, or, if one is refused or an exception leaves the block, none. The `request` of the
+        `Refused` is the place, from 0, of the one at fault.
+        """
+        self._session.test_changes()
+        return Transaction(self)
 
     def backup(self, path: Path) -> None:
         """Writes all that the store holds into a new file: what every request that was answered has left. Requests may

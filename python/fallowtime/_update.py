@@ -11,8 +11,8 @@ from ._errors import refusal
 
 # The operators that the program has, each with an object of paths.
 OPERATORS = frozenset([
-    "$set", "$setOnInsert", "$unset", "$inc", "$mul", "$min", "$max", "$push", "$addToSet", "$pull", "$pullAll",
-    "$pop", "$rename",
+    "$set", "$setOnInsert", "$unset", "$inc", "$mul", "$min", "$max", "$currentDate", "$push", "$addToSet",
+    "$pull", "$pullAll", "$pop", "$rename",
 ])
 
 
@@ -31,6 +31,8 @@ def encode_update(method: str, update: Any) -> str:
             refuse(f"the operator {operator} of {method}", "an update has " + ", ".join(sorted(OPERATORS)))
         if not isinstance(members, Mapping):
             raise TypeError(f"{operator} takes a dict, and not {type(members).__name__}")
+        if operator == "$currentDate" and {"$type": "timestamp"} in members.values():
+            refuse(f"a timestamp of $currentDate in {method}", "it sets a date")
         for path in members:
             _test_path(path)
     texts = (f"{encode_text(operator)}:{encode_document(members)}" for operator, members in update.items())

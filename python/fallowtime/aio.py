@@ -23,13 +23,14 @@ from ._client import MongoClient
 from ._collection import Collection
 from ._cursor import CommandCursor, Cursor
 from ._store import Path, Store
+from ._transaction import Transaction
 
 Document = Dict[str, Any]
 Answer = TypeVar("Answer")
 
 __all__ = [
     "AsyncIOMotorClient", "AsyncIOMotorCollection", "AsyncIOMotorCommandCursor", "AsyncIOMotorCursor",
-    "AsyncIOMotorDatabase", "open",
+    "AsyncIOMotorDatabase", "AsyncIOMotorTransaction", "open",
 ]
 
 
@@ -212,6 +213,20 @@ class AsyncIOMotorCollection(WithAbsent):
         return hash(self.delegate)
 
 
+class AsyncIOMotorTransaction:
+    """Changes that are made in one step, at the end of an ``async with`` block, which has the `fallowtime.Transaction`:
+    its methods only note what is to be done, so none of them is awaited."""
+
+    def __init__(self, database: "AsyncIOMotorDatabase", delegate: Transaction) -> None:
+        self.delegate, self._run = delegate, database._run
+
+    async def __aenter__(self) -> Transaction:
+        return self.delegate.__enter__()
+
+    async def __aexit__(self, *error: Any) -> None:
+        await self._run(functools.partial(self.delegate.__exit__, *error))
+
+
 class AsyncIOMotorDatabase(WithAbsent):
     """A store, which `open` or a client opens: ``store["orders"]`` or ``store.orders`` is a collection."""
 
@@ -242,6 +257,15 @@ class AsyncIOMotorDatabase(WithAbsent):
         """Removes all documents of a collection, and drops its indexes."""
         found = self[name_or_collection] if isinstance(name_or_collection, str) else name_or_collection
         await found.drop(**options)
+
+    def transaction(self) -> AsyncIOMotorTransaction:
+        """Changes that are made in one step, as `fallowtime.Store.transaction` makes them::
+
+            async with store.transaction() as changes:
+                changes.set("accounts", "alice", "balance", 70)
+                changes.set("accounts", "bob", "balance", 130)
+        """
+        return AsyncIOMotorTransaction(self, self.delegate.transaction())
 
     @property
     def name(self) -> str:

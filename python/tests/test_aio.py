@@ -40,6 +40,22 @@ class Aio(WithFolder, unittest.IsolatedAsyncioTestCase):
         self.assertEqual((await orders.delete_many({})).deleted_count, 3)
         self.assertEqual((await orders.find_one(), await orders.options()), (None, {}))
 
+    async def test_transactions(self):
+        async with self.store.transaction() as changes:
+            changes.set("orders", 1, "x", 12)
+            changes.remove(self.orders, 2)
+        self.assertEqual(changes.results, [None, None])
+        self.assertEqual(await self.orders.find().to_list(None), [{"_id": 1, "x": 12}, self.documents[2]])
+        with self.assertRaises(fallowtime.DuplicateKeyError):
+            async with self.store.transaction() as changes:
+                changes.set("orders", 1, "x", 13)
+                changes.insert("orders", {"_id": 3})
+        with self.assertRaises(ZeroDivisionError):
+            async with self.store.transaction() as changes:
+                changes.remove("orders", 1)
+                raise ZeroDivisionError
+        self.assertEqual(await self.orders.find_one(1), {"_id": 1, "x": 12})
+
     async def test_cursors(self):
         find = self.orders.find
         self.assertEqual([found async for found in find()], self.documents)

@@ -1,4 +1,5 @@
 """Each method of a store and of a collection."""
+import datetime
 import decimal
 import inspect
 import io
@@ -8,6 +9,7 @@ import pathlib
 import re
 import struct
 import subprocess
+import time
 import unittest
 
 from common import PROGRAM, WithFolder
@@ -324,6 +326,20 @@ class Changing(WithFolder):
         self.assert_refused("Through", update, {"_id": 1}, {"$set": {"n.m": 5}}, document=0)
         self.assertEqual(self.orders.find_one(1)["-x"], 2)
 
+    def test_update_to_the_date(self):
+        def now():
+            return datetime.datetime.now(datetime.timezone.utc).replace(tzinfo=None)
+
+        instant = datetime.timedelta(milliseconds=1)
+        for method in self.orders.update_one, self.orders.update_many:
+            before = now()
+            done = method({"_id": 1}, {"$currentDate": {"seen": True, "by.day": {"$type": "date"}}})
+            self.assertEqual(counts(done), (1, 1, None))
+            order = self.orders.find_one(1)
+            self.assertEqual(order["seen"], order["by"]["day"])
+            self.assertTrue(before - instant < order["seen"] <= now(), order)
+            time.sleep(0.05)
+
     def test_update_many(self):
         update = self.orders.update_many
         self.assertEqual(counts(update({}, {"$set": {"c": 1}})), (3, 3, None))
@@ -355,7 +371,8 @@ class Changing(WithFolder):
             ({"$set": {"a": 1}, "$unset": {"a": 1}}, ValueError), (None, TypeError), ("$set", TypeError),
             ({"$unset": ["a"]}, TypeError), ({"$set": {"a.": 1}}, ValueError), ({"$set": {"": 1}}, ValueError),
             ({"$unset": {"a.$b": 1}}, ValueError), ({"$inc": {"a": "1"}}, ValueError),
-            ({"$set": {"a": 1, "a.b": 2}}, ValueError), ({"$currentDate": {"a": True}}, NotImplementedError),
+            ({"$set": {"a": 1, "a.b": 2}}, ValueError), ({"$currentDate": {"a": False}}, ValueError),
+            ({"$currentDate": {"a": {"$type": "timestamp"}}}, NotImplementedError),
             ([{"$set": {"a": 1}}], NotImplementedError), ({"$set": {"a": 1}, "$bit": {"b": 1}}, NotImplementedError),
         ]:
             with self.subTest(update=update):

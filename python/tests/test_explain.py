@@ -19,10 +19,14 @@ SERVED = [
     {"$or": [{"a.b": 5}, {"a.b": 6, "x": 0}]}, {"$and": [{"x": 0}, {"$and": [{"a.b": 5}, {"x": 0}]}]},
     {"a.b": {"$type": "array"}}, {"a.b": {"$type": ["array", 19]}}, {"a.b": float("inf")},
     {"a": {"$type": "array"}, "a.b": {"$gt": 0}}, {"$comment": "why", "a.b": 5}, {"a.b": {"$all": [[5], 5]}},
+    {"a.b": {"$lt": 5}}, {"a.b": {"$gte": 5, "$lt": 9.5}}, {"a.b": {"$gt": "5"}}, {"a.b": {"$lte": Symbol("5")}},
+    {"$and": [{"a.b": {"$gt": Decimal("5.5")}}, {"x": 0, "a.b": {"$lt": Int64(9)}}]}, {"a.b": {"$gt": 5, "$lte": 9}},
+    {"a.b": {"$gte": datetime.datetime(2026, 1, 2)}},
 ]
 NOT_SERVED = [
     {}, {"x": 0}, {"a": 5}, {"a.b.c": 5}, {"a": {"b": 5}}, {"a.b": None}, {"a.b": [5]}, {"a.b": {"c": 5}},
-    {"a.b": Decimal("0.5")}, {"a.b": float("nan")}, {"a.b": {"$gt": 5}}, {"a.b": {"$ne": 5}}, {"a.b": {"$nin": [5]}},
+    {"a.b": Decimal("0.5")}, {"a.b": float("nan")}, {"a.b": {"$gt": True}}, {"a.b": {"$gte": None}}, {"a.b": {"$lt": [5]}},
+    {"$or": [{"a.b": {"$lt": 5}}]}, {"a.b": {"$ne": 5}}, {"a.b": {"$nin": [5]}},
     {"a.b": {"$not": {"$eq": 5}}}, {"a.b": {"$exists": True}}, {"a.b": {"$mod": [5, 0]}}, {"a.b": {"$size": 5}},
     {"a.b": {"$elemMatch": {"$eq": 5}}}, {"a.b": {"$type": "int"}}, {"a.b": {"$type": "number"}},
     {"a.b": {"$type": ["array", "int"]}}, {"a.b": {"$in": [5, None]}}, {"a.b": {"$in": []}}, {"a.b": {"$all": []}},

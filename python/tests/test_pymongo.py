@@ -237,9 +237,16 @@ class Several(WithOrders):
         self.assertEqual(moved.count_documents({"x": before[0]["x"]}), 1)
         self.assert_fails(26, self.orders.rename, "new")
         self.assert_fails(48, moved.rename, "moved")
-        self.assertRaises(NotImplementedError, moved.rename, "new", dropTarget=True)
         self.assertRaises(TypeError, moved.rename, 1)
-        self.assertEqual(list(moved.find()), before)
+        target = self.store["target"]
+        target.insert_one({"_id": 1})
+        target.create_index("y")
+        self.assert_fails(48, moved.rename, "target")
+        self.assert_fails(48, target.rename, "target", dropTarget=True)
+        self.assert_fails(26, self.orders.rename, "target", dropTarget=True)
+        self.assertEqual(moved.rename("target", dropTarget=True), {"ok": 1.0})
+        self.assertEqual((list(target.find()), list(target.index_information())), (before, ["_id_", "x_1"]))
+        self.assertEqual((list(moved.find()), moved.index_information()), ([], {}))
 
 
 class FindingAndChanging(WithOrders):

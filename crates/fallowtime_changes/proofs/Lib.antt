@@ -1,1 +1,4 @@
 mod WayLemmas
+pub mod WriteLemmas
+pub mod TurnLemmas
+pub mod ExitLemmas

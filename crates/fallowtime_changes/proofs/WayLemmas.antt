@@ -21,12 +21,13 @@ use Rattle.bson_store.specs.Refusals.{as_done, as_flag, reply_by}
 use Rattle.bson_store.specs.Shown.{Represents}
 use Rattle.store_writer.specs.Writer.{Serves, size_of, state_of}
 use Rattle.store_writer.specs.declared.writer.Writer.{Writer}
-use Rattle.store_change.specs.Changes.{LeavesBytes, Reads, Stays, Turned, Turns}
-use Rattle.store_change.proofs.TurnLemmas.{shows_before}
-use Rattle.store_change.proofs.WriteLemmas.{kept_itself, kept_left, stays_itself}
+use Rattle.fallowtime_changes.specs.Changes.{LeavesBytes, Reads, Stays, Turned, Turns}
+use Rattle.fallowtime_changes.proofs.TurnLemmas.{shows_before}
+use Rattle.fallowtime_changes.proofs.WriteLemmas.{kept_itself, kept_left, stays_itself}
 use Rattle.fallowtime_commands.specs.Performing.{IsFlag, reply_of}
 use Rattle.fallowtime_commands.specs.Setting.{Sets}
-use Rattle.fallowtime_commands.specs.Storing.{HasReplaced, IsFit, IsStopped, Puts, Stores}
+use Rattle.bson_store.specs.Drafting.{HasReplaced}
+use Rattle.fallowtime_commands.specs.Storing.{IsFit, IsStopped, Puts, Stores}
 use Rattle.fallowtime_commands.specs.declared.answer.Answer.{Answer}
 use Rattle.fallowtime_commands.specs.declared.answer.Answer.TheVariants as answer
 use Rattle.fallowtime_commands.proofs.SetLemmas.{got_document}

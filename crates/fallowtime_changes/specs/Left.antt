@@ -10,7 +10,7 @@ use Rattle.store_model.specs.Table.{state_of as lists_of}
 use Rattle.store_model.specs.declared.error.StoreError.{StoreError}
 use Rattle.store_writer.specs.Writer.{size_of, state_of}
 use Rattle.store_writer.specs.declared.writer.Writer.{Writer}
-use Rattle.store_change.specs.Changes.{Along, HoldState, IsLeftBy, Turns}
+use Rattle.fallowtime_changes.specs.Changes.{Along, HoldState, IsLeftBy, Turns}
 use Rattle.fallowtime_commands.specs.Left.{OfPut, OfRequest, OfSet, OfStored, Ways}
 use Rattle.fallowtime_commands.specs.Performing.{Performs, reply_of}
 use Rattle.fallowtime_commands.specs.Printing.{Tells}

@@ -8,20 +8,20 @@ ghost use Rattle.store_model.specs.State.{in_bytes, insert as inserts, on, repla
 ghost use Rattle.bson_store.specs.Calls.{Does};
 ghost use Rattle.bson_store.specs.Refusals.{as_done, as_flag, reply_by};
 ghost use Rattle.store_writer.specs.Writer.{state_of};
-ghost use Rattle.store_change.specs.Changes.{LeavesCall, Turns};
+ghost use Rattle.fallowtime_changes.specs.Changes.{LeavesCall, Turns};
 ghost use Rattle.fallowtime_commands.specs.Performing.{IsAnswerTo, Performs, reply_of};
 ghost use Rattle.fallowtime_commands.specs.Setting.{Sets};
 ghost use Rattle.fallowtime_commands.specs.Storing.{Puts, Stores};
 ghost use Rattle.fallowtime_changes.specs.Left.{LeavesPut, LeavesRequest, LeavesSet, LeavesStored};
 ghost use Rattle.fallowtime_changes.specs.Single.{is_of_one};
 
+use crate::calls::{get_raw, insert_raw, remove, replace_raw, unset};
 use bson_model::{Bson, Document};
 use fallowtime_commands::answer::{flag, inserted, nothing};
 use fallowtime_commands::{Answer, can_be_set, kept_bytes, with_value};
 use fallowtime_requests::Request;
 use sqlite_disk::Disk;
 use std::alloc::Global;
-use store_change::{get_raw, insert_raw, remove, replace_raw, unset};
 use store_model::{ErrorKind, StoreError};
 use store_writer::Writer;
 

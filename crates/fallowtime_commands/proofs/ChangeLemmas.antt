@@ -34,7 +34,7 @@ use Rattle.bson_store.proofs.WholeLemmas.{length_take, split_at, take_none}
 use Rattle.fallowtime_commands.specs.Asking.{AreChosen, chosen}
 use Rattle.fallowtime_commands.specs.Left.{LeavesApplied, LeavesChange}
 use Rattle.fallowtime_commands.specs.Performing.{IsChange, reply_of}
-use Rattle.fallowtime_commands.specs.Changing.{Applies, AreEdits, AreMeant, Becomes, CanBe, Changes, ChangesFound, done_by, Exchanges, IsReplacement, IsUnfound, IsUnkeptAt, IsUnmadeAt, IsUnrenewedAt, listed, outcome_of, Renews, Replaces, StopsAt, Updates}
+use Rattle.fallowtime_commands.specs.Changing.{Applies, AreEdits, AreMeant, Becomes, CanBe, Changes, ChangesBodies, ChangesFound, done_by, Exchanges, IsReplacement, IsUnfound, IsUnkeptAt, IsUnmadeAt, IsUnrenewedAt, listed, outcome_of, Renews, Replaces, StopsAt, Updates}
 use Rattle.fallowtime_commands.specs.declared.answer.Answer.{Answer}
 use Rattle.fallowtime_commands.specs.declared.changing.Unmade.{Unmade}
 use Rattle.fallowtime_commands.specs.declared.changing.Unmade.TheVariants as unmade
@@ -85,13 +85,13 @@ as_many bodies k is = is ∙ sym (length-map bodies (λ (v : Vec ℕ Global). v.
 -- ---- the changes
 
 module _ (n : List ℕ) (w : Work) where
-  one_more : (ds : Documents) (xs : List Edit) (d : Members) (change : Option Edit) → AreEdits n w ds xs → Becomes n w d change → AreEdits n w (ds ++ d ∷ []) (xs ++ listed change)
+  pub one_more : (ds : Documents) (xs : List Edit) (d : Members) (change : Option Edit) → AreEdits n w ds xs → Becomes n w d change → AreEdits n w (ds ++ d ∷ []) (xs ++ listed change)
   one_more [] xs d change h becomes = (change, [], becomes, refl, ap (λ ys. ys ++ listed change) h ∙ sym (append-nil (listed change)))
   one_more (c ∷ ds) xs d change (first, rest, its, more, is) becomes =
       (first, rest ++ listed change, its, one_more ds rest d change more becomes, ap (λ ys. ys ++ listed change) is ∙ append_assoc (listed first) rest (listed change))
 
 -- the document of the body at a place
-entry : (bodies : List (Vec ℕ Global)) (ds : Documents) (i : ℕ) (x : Vec ℕ Global) → AreKept ds → bytes_of_each bodies ≡ map encode ds → i < length bodies → x ≡ get_or bodies i x
+pub entry : (bodies : List (Vec ℕ Global)) (ds : Documents) (i : ℕ) (x : Vec ℕ Global) → AreKept ds → bytes_of_each bodies ≡ map encode ds → i < length bodies → x ≡ get_or bodies i x
     → (d : Members) × IsKept d × (x.items ≡ encode d) × (d ≡ get_or ds i d) × (i < length ds)
 entry [] ds i x kept same low is = absurd (omega (arith, low))
 entry (b ∷ bs) [] i x kept same low is = absurd cc
@@ -225,10 +225,7 @@ unmade_is_change w (unmade.Store e) can = tt
 
 -- ---- rows
 
-module _ (n : List ℕ) (form : Form) (w : Work) (many : Bool) where
-  abbrev pub Finding : Bodies → List TableRow → List TableRow → Type 0
-  Finding found = AskedFrom (AreChosen many) n form (Ok found)
-
+module _ (n : List ℕ) (w : Work) where
   -- it stops there, whatever documents have these bodies
   abbrev pub AllStop : Bodies → Unmade → Type 0
   AllStop bodies why = (ds : Documents) → AreKept ds → bytes_of_each bodies.items ≡ map encode ds → StopsAt n w ds why
@@ -236,34 +233,44 @@ module _ (n : List ℕ) (form : Form) (w : Work) (many : Bool) where
   abbrev pub AllHave : Bodies → List Edit → Type 0
   AllHave bodies xs = (ds : Documents) → AreKept ds → bytes_of_each bodies.items ≡ map encode ds → AreEdits n w ds xs
 
+  pub unmade_bodies : (bodies : Bodies) (why : Unmade) (docs : List TableRow) → AllStop bodies why → ChangesBodies n w bodies.items (outcome_of why) docs docs
+  unmade_bodies bodies why docs stop ds kept are = made_of_none n w ds why docs (stop ds kept are)
+
+  pub applied_bodies : (bodies : Bodies) (xs : List Edit) (k : ℕ) (o : Result Answer StoreError) (docs after : List TableRow) → k ≡ length bodies.items → AllHave bodies xs → Applies w xs k o docs after → ChangesBodies n w bodies.items o docs after
+  applied_bodies bodies xs k o docs after count have applies ds kept are =
+      applied n w ds xs k o docs after (as_many bodies.items k count ∙ (ap length are ∙ length-map ds encode)) (have ds kept are) applies
+
+module _ (n : List ℕ) (form : Form) (w : Work) (many : Bool) where
+  abbrev pub Finding : Bodies → List TableRow → List TableRow → Type 0
+  Finding found = AskedFrom (AreChosen many) n form (Ok found)
+
+  pub unfound_rows : (e : StoreError) (docs after : List TableRow) → AskedFrom (AreChosen many) n form (Err e) docs after → ChangesFound n form w many (Err e) docs after
+  unfound_rows e docs after h q reads a shown = inl (unfound_are n form q many e docs after a reads shown h)
+
+  pub changed_rows : (bodies : Bodies) (o : Result Answer StoreError) (docs mid after : List TableRow) → Finding bodies docs mid → ChangesBodies n w bodies.items o mid after → ChangesFound n form w many o docs after
+  changed_rows bodies o docs mid after h changes q reads a shown =
+      let x = found_are n form q many bodies docs mid a reads shown h in
+      inr (x.good, (x.documents, x.meant, subst (λ (rows : List TableRow). Changes n w x.documents o rows after) x.same (changes x.documents x.are_kept x.are)))
+
   pub unfound_moves : (s t : State) (e : StoreError) → Moves s t (AskedFrom (AreChosen many) n form (Err e)) → Moves s t (ChangesFound n form w many (Err e))
-  unfound_moves s t e m =
-      moved s t (AskedFrom (AreChosen many) n form (Err e)) (ChangesFound n form w many (Err e)) m (λ docs after h q reads a shown. inl (unfound_are n form q many e docs after a reads shown h))
+  unfound_moves s t e m = moved s t (AskedFrom (AreChosen many) n form (Err e)) (ChangesFound n form w many (Err e)) m (λ docs after h. unfound_rows e docs after h)
 
-  pub unmade_moves : (s t : State) (bodies : Bodies) (why : Unmade) → AllStop bodies why → Moves s t (Finding bodies) → Moves s t (ChangesFound n form w many (outcome_of why))
+  pub unmade_moves : (s t : State) (bodies : Bodies) (why : Unmade) → AllStop n w bodies why → Moves s t (Finding bodies) → Moves s t (ChangesFound n form w many (outcome_of why))
   unmade_moves s t bodies why stop m =
-      moved s t (Finding bodies) (ChangesFound n form w many (outcome_of why)) m
-      (λ docs after h q reads a shown.
-      let x = found_are n form q many bodies docs after a reads shown h in
-      let made = made_of_none n w x.documents why docs (stop x.documents x.are_kept x.are) in
-      inr (x.good, (x.documents, x.meant, subst (λ (rows : List TableRow). Changes n w x.documents (outcome_of why) docs rows) (sym x.same) made)))
+      moved s t (Finding bodies) (ChangesFound n form w many (outcome_of why)) m (λ docs after h. changed_rows bodies (outcome_of why) docs after after h (unmade_bodies n w bodies why after stop))
 
-  pub applied_moves : (s m t : State) (bodies : Bodies) (xs : List Edit) (k : ℕ) (o : Result Answer StoreError) → k ≡ length bodies.items → AllHave bodies xs
+  pub applied_moves : (s m t : State) (bodies : Bodies) (xs : List Edit) (k : ℕ) (o : Result Answer StoreError) → k ≡ length bodies.items → AllHave n w bodies xs
       → Moves s m (Finding bodies) → Moves m t (Applies w xs k o) → Moves s t (ChangesFound n form w many o)
   applied_moves s m t bodies xs k o count have first second =
       moved_twice s m t (Finding bodies) (Applies w xs k o) (ChangesFound n form w many o) first second
-      (λ docs mid after h applies q reads a shown.
-      let x = found_are n form q many bodies docs mid a reads shown h in
-      let all : k ≡ length x.documents = as_many bodies.items k count ∙ (ap length x.are ∙ length-map x.documents encode) in
-      let done = applied n w x.documents xs k o mid after all (have x.documents x.are_kept x.are) applies in
-      inr (x.good, (x.documents, x.meant, subst (λ (rows : List TableRow). Changes n w x.documents o rows after) x.same done)))
+      (λ docs mid after h applies. changed_rows bodies o docs mid after h (applied_bodies n w bodies xs k o mid after count have applies))
 
   -- ---- what a crash leaves
 
   pub refused_leaves : (s t : State) (r : Reply) → IsRefusal r → Survives s t (λ _. ⊥) → LeavesChange n form w many r s t
   refused_leaves s t r refusal survives clean first docs beside stands a shown db may q reads = inl (refusal, elim (survives.crash clean db may) [ inl was ↦ was | inr none ↦ absurd none ])
 
-  pub applied_leaves : (s m t : State) (bodies : Bodies) (xs : List Edit) (k : ℕ) (o : Result Answer StoreError) → AllHave bodies xs
+  pub applied_leaves : (s m t : State) (bodies : Bodies) (xs : List Edit) (k : ℕ) (o : Result Answer StoreError) → AllHave n w bodies xs
       → Moves s m (Finding bodies) → Survives s m (λ _. ⊥) → Moves m t (Applies w xs k o) → LeavesApplied xs o m t → LeavesChange n form w many (reply_of o) s t
   applied_leaves s m t bodies xs k (Ok x) have first_move survives second_move leaves clean first docs beside stands a shown db may q reads =
       let early = (second_move clean).0 in

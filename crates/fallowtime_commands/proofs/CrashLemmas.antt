@@ -1,5 +1,5 @@
 -- Which databases a crash may leave after a request.
-use Rattle.std.proofs.Common.{Bool, List, [], ◌∷◌, ℕ, Some, inl, inr}
+use Rattle.std.proofs.Common.{Bool, true, false, List, [], ◌∷◌, ℕ, Some, inl, inr}
 use Rattle.sqlite.specs.Effect.{Database}
 use Rattle.sqlite.specs.State.{State, HasCleanDisk}
 use Rattle.sqlite_trees.specs.Tree.{Trees}
@@ -19,9 +19,11 @@ use Rattle.bson_store.specs.Left.{Holds}
 use Rattle.bson_store.specs.Whole.{HoldsDone}
 use Rattle.bson_store.specs.declared.edit.Edit.{Edit}
 use Rattle.bson_store.specs.Shown.{Represents}
-use Rattle.fallowtime_commands.specs.Left.{LeavesIn, LeavesRequest, LeftByRequest, LeftIn, OfCall, OfPut, OfRequest, OfSet, OfStored, OfAlter, OfChange, OfFound, OfTransfer, Unmoved, Ways, LeftByUpsert, OfUpsert}
+use Rattle.fallowtime_commands.specs.Left.{LeavesIn, LeavesRequest, LeftByRequest, LeftIn, OfCall, OfPut, OfRequest, OfSet, OfStored, OfAlter, OfChange, OfEntered, OfFound, OfImport, OfTransfer, Unmoved, Ways, LeftByUpsert, OfUpsert}
 use Rattle.fallowtime_requests.specs.declared.request.Otherwise.{Otherwise}
 use Rattle.fallowtime_requests.specs.declared.request.Otherwise.TheVariants as otherwise
+use Rattle.fallowtime_requests.specs.declared.request.Existing.{Existing}
+use Rattle.fallowtime_requests.specs.declared.request.Existing.TheVariants as existing
 use Rattle.fallowtime_requests.specs.declared.request.Request.{Request}
 use Rattle.fallowtime_requests.specs.declared.request.Request.TheVariants as request
 use Rattle.fallowtime_requests.specs.declared.request.Transfer.{Transfer}
@@ -75,6 +77,14 @@ module _ (Same More : Type 0) (same : Same → More) (Of Then : Ways → Type 0)
   of_transfer : (how : Transfer) → OfTransfer Same Of n r how → OfTransfer More Then n r how
   of_transfer how h = goes _ (λ From Into Done Has Was Is each was a h. elim h [ inl refused ↦ inl (refused.0, was refused.1) | inr done ↦ inr done ]) h
 
+  of_entered : (stays : Bool) (bytes : List ℕ) → OfEntered Same Of n r stays bytes → OfEntered More Then n r stays bytes
+  of_entered stays bytes h = goes _ (λ From Into Done Has Was Is each was a h. elim h [ inl refused ↦ inl (refused.0, was refused.1) | inr done ↦ inr done ]) h
+
+  of_import : (e : Existing) (bytes : List ℕ) → OfImport Same Of n r e bytes → OfImport More Then n r e bytes
+  of_import existing.Refuse bytes h = λ ds stop reads. of_call (model.import ds stop) (h ds stop reads)
+  of_import existing.Replace bytes h = of_entered false bytes h
+  of_import existing.Skip bytes h = of_entered true bytes h
+
   of_request : (q : Request) → OfRequest Same Of n r q → OfRequest More Then n r q
   of_request (request.Insert id d) h = of_stored (model.insert model.in_bytes) (content d) h
   of_request (request.Put d) h = of_put (content d) h
@@ -86,11 +96,11 @@ module _ (Same More : Type 0) (same : Same → More) (Of Then : Ways → Type 0)
   of_request (request.FindAndChange q w k) h = of_found (form_of q) w k h
   of_request (request.Upsert q w many u) h = of_upsert (form_of q) w many u h
   of_request (request.Remove id) h = of_call (model.remove (view id)) h
-  of_request (request.Import stream) h = λ ds stop reads. of_call (model.import ds stop) (h ds stop reads)
+  of_request (request.Import stream e) h = of_import e stream.items h
   of_request (request.Transfer how) h = of_transfer how h
   of_request (request.Get id) h = same h
   of_request (request.Find f a) h = same h
-  of_request (request.Count f) h = same h
+  of_request (request.Count f p) h = same h
   of_request (request.Distinct path f counts) h = same h
   of_request (request.Index path) h = same h
   of_request (request.DropIndex path) h = same h

@@ -1,7 +1,7 @@
 -- What the lists of changes of a whole collection lead to.
-use Rattle.std.proofs.Common.{◌≡◌, ◌≢◌, ◌<◌, ◌≤◌, ◌+◌, inl, inr, ℕ, zero, suc, List, [], ◌∷◌, ◌++◌, length, map, take, get_or, Vec, Global, arith, Bool, true, false, cond, Option, Some, None, refl, sym, ap, ap₂, subst, ◌∙◌, append_assoc, append-nil}
+use Rattle.std.proofs.Common.{◌≡◌, ◌≢◌, ◌<◌, ◌≤◌, ◌+◌, ◌⊎◌, inl, inr, ℕ, zero, suc, List, [], ◌∷◌, ◌++◌, length, map, take, get_or, Vec, Global, arith, Bool, true, false, not, cond, Option, Some, None, Result, Ok, Err, Bor, refl, sym, ap, ap₂, subst, ◌∙◌, append_assoc, append-nil}
 use Rattle.std.proofs.lemmas.List.{length-map, take_all, take_more}
-use Rattle.std.specs.Prelude.{bytes_eq, IsSomeAnd, MatchOption}
+use Rattle.std.specs.Prelude.{bytes_eq, IsSomeAnd, MatchOption, MatchResult}
 use Rattle.std.specs.FinMap.{get}
 use Rattle.bson_base.proofs.MemberLemmas.{same_key}
 use Rattle.bson_base.specs.Value.{Members, Value, look_up}
@@ -16,22 +16,23 @@ use Rattle.store_model.proofs.RowLemmas.{rows_not_empty}
 use Rattle.store_model.proofs.RestoreLemmas.{not_refused, written_reads}
 use Rattle.store_model.proofs.StateLemmas.{HasNoEmpty, list_of-store, never_empty, same_lists, stored_again}
 use Rattle.store_model.specs.Reading.{Documents, IsRead, readable, ReadsBytes}
-use Rattle.store_model.specs.Run.{Denial, database, kind_of_denial, memory, places, Turn}
 use Rattle.store_model.specs.Table.{AreRows, DocumentTable, state_of}
-use Rattle.store_model.specs.State.{Answers, AreKept, Command, done, HasId, HaveOwnIds, id_key, in_bytes, insert, IsKept, IsName, IsStore, IsTaken, list_of, NoneHasId, on, Refuses, refused, remove, Reply, SomeHasId, State, Step, store, When}
+use Rattle.store_model.specs.State.{Answers, AreKept, done, HasId, HaveOwnIds, id_key, in_bytes, insert, IsKept, IsName, IsStore, IsTaken, list_of, NoneHasId, on, Refuses, refused, remove, Reply, SomeHasId, State, Step, store, When}
 use Rattle.store_model.specs.declared.error.ErrorKind.{ErrorKind}
-use Rattle.store_model.specs.declared.error.ErrorKind.TheVariants.{Database, DuplicateId, Memory, Places}
+use Rattle.store_model.specs.declared.error.ErrorKind.TheVariants.{DuplicateId, Memory}
 use Rattle.store_model.specs.declared.error.StoreError.{StoreError}
-use Rattle.store_table.specs.declared.fault.Fault.TheVariants as faults
 use Rattle.store_sorted.proofs.PlaceLemmas.{zip_more}
+use Rattle.store_model.specs.Refusal.{refusal}
 use Rattle.bson_store.proofs.WholeLemmas.{take_none}
 use Rattle.bson_store.specs.Export.{bytes_of_each}
-use Rattle.bson_store.specs.Whole.{Accepted, AskEdits, AsksEdit, IsFault, StopsAt, WhyNot}
+use Rattle.bson_store.specs.Drafting.{IsFault}
+use Rattle.bson_store.specs.Whole.{Accepted, EditBy, StopsAt, WhyNot}
 use Rattle.bson_store.specs.declared.edit.Edit.{Edit}
-use Rattle.bson_store.specs.declared.edit.Edit.TheVariants.{InsertRaw, Remove, ReplaceRaw}
+use Rattle.bson_store.specs.declared.edit.Edit.TheVariants.{InsertRaw, KeepRaw, PutRaw, Remove, ReplaceRaw}
 use Rattle.bson_store.specs.declared.edit.ListRefusal.{ListRefusal}
+use Rattle.fallowtime_commands.proofs.ChangeLemmas.{entry, one_more}
 use Rattle.fallowtime_commands.specs.Changing.{AreEdits, IsRemoval, listed}
-use Rattle.fallowtime_commands.specs.Transferring.{AreInsertions, IsDraft, IsInsertion, IsReady, transferred}
+use Rattle.fallowtime_commands.specs.Transferring.{AreInsertions, IsDraft, IsInsertion, IsReady, displaced, gives_way, transferred}
 use Rattle.fallowtime_requests.specs.declared.request.Transfer.{Transfer}
 use Rattle.fallowtime_requests.specs.declared.request.Transfer.TheVariants as transfer
 use Rattle.fallowtime_requests.specs.declared.request.Work.TheVariants as work
@@ -47,7 +48,7 @@ store_twice s n xs ys whole =
     by m true e = refl
     by m false e = e
 
-own_list : (s : State) (n : List ℕ) (ds : Documents) → list_of (store s n ds) n ≡ ds
+pub own_list : (s : State) (n : List ℕ) (ds : Documents) → list_of (store s n ds) n ≡ ds
 own_list s n ds = list_of-store s n n ds ∙ ap (λ b. cond b ds (list_of s n)) (same_key n)
 
 -- a list that is empty stays so, whatever other list is
@@ -57,6 +58,16 @@ still_empty s n m none = list_of-store s n m [] ∙ by (bytes_eq m n)
     by : (b : Bool) → cond b [] (list_of s m) ≡ []
     by true = refl
     by false = none
+
+-- a list that stays when another one is emptied: it is empty, or it is another one
+stays_there : (s : State) (n m : List ℕ) (drops : Bool) → (list_of s m ≡ []) ⊎ (gives_way drops n m ≡ true) → list_of (store s n []) m ≡ list_of s m
+stays_there s n m drops (inl none) = still_empty s n m none ∙ sym none
+stays_there s n m false (inr way) = absurd cc
+stays_there s n m true (inr way) = list_of-store s n m [] ∙ by (bytes_eq m n) way
+  where
+    by : (b : Bool) → not b ≡ true → cond b [] (list_of s m) ≡ list_of s m
+    by true e = absurd cc
+    by false e = refl
 
 none_empty : (s t : State) (n : List ℕ) (ds : Documents) → HasNoEmpty s → t ≡ store s n ds → HasNoEmpty t
 none_empty s t n ds whole is = λ m. subst (λ (y : State). get y m ≢ Some []) (sym is) (never_empty s n m ds whole)
@@ -92,71 +103,73 @@ removed s t n id d ds kept own all (inl (good, (es, answers, is))) = is ∙ ap (
     by (inr (none, (refuses, stays))) = absurd cc
 removed s t n id d ds kept own all (inr (bad, (refuses, stays))) = absurd cc
 
--- the command that an insertion is
-pub insertion_asks : (n : List ℕ) (x : Edit) (d : Members) (c : Command) → IsKept d → IsInsertion n x d → AsksEdit x c → c ≡ on n (insert in_bytes (readable d))
-insertion_asks n (InsertRaw name bytes) d c kept (named, is) (r, reads, asks) =
-    let same : r ≡ readable d = (written_reads d kept r).0 (subst (λ (b : List ℕ). ReadsBytes b r) is reads) in
-    asks ∙ ap₂ (λ m y. on m (insert in_bytes y)) named same
-insertion_asks n (ReplaceRaw name bytes) d c kept it asks = absurd it
-insertion_asks n (Remove name id) d c kept it asks = absurd it
+-- the step that an insertion is
+pub insertion_steps : (n : List ℕ) (x : Edit) (d : Members) (s : State) (r : Reply) (t : State) → IsKept d → IsInsertion n x d → EditBy Step x s r t → Step s (on n (insert in_bytes (readable d))) r t
+insertion_steps n (InsertRaw name bytes) d s r t kept (named, is) (x, reads, step) =
+    let same : x ≡ readable d = (written_reads d kept x).0 (subst (λ (b : List ℕ). ReadsBytes b x) is reads) in
+    subst (λ c. Step s c r t) (ap₂ (λ m y. on m (insert in_bytes y)) named same) step
+insertion_steps n (ReplaceRaw name bytes) d s r t kept it step = absurd it
+insertion_steps n (PutRaw name bytes) d s r t kept it step = absurd it
+insertion_steps n (KeepRaw name bytes) d s r t kept it step = absurd it
+insertion_steps n (Remove name id) d s r t kept it step = absurd it
 
--- the command that a removal is
-pub removal_asks : (n : List ℕ) (x : Edit) (d : Members) (c : Command) → IsRemoval n d x → AsksEdit x c → (id : Value) × (look_up id_key d ≡ Some id) × (c ≡ on n (remove id))
-removal_asks n (Remove name id) d c (named, own) asks = (view id, own, asks ∙ ap (λ m. on m (remove (view id))) named)
-removal_asks n (InsertRaw name bytes) d c it asks = absurd it
-removal_asks n (ReplaceRaw name bytes) d c it asks = absurd it
+-- the step that a removal is
+pub removal_steps : (n : List ℕ) (x : Edit) (d : Members) (s : State) (r : Reply) (t : State) → IsRemoval n d x → EditBy Step x s r t → (id : Value) × (look_up id_key d ≡ Some id) × Step s (on n (remove id)) r t
+removal_steps n (Remove name id) d s r t (named, own) step = (view id, own, subst (λ m. Step s (on m (remove (view id))) r t) named step)
+removal_steps n (InsertRaw name bytes) d s r t it step = absurd it
+removal_steps n (ReplaceRaw name bytes) d s r t it step = absurd it
+removal_steps n (PutRaw name bytes) d s r t it step = absurd it
+removal_steps n (KeepRaw name bytes) d s r t it step = absurd it
 
 -- ---- all of them
 
-insertions_run : (n : List ℕ) (xs : List Edit) (ds : Documents) (cs : List Command) (s t : State) → HasNoEmpty s → AreKept ds → AreInsertions n xs ds → AskEdits xs cs → Accepted s cs t → t ≡ store s n (list_of s n ++ ds)
-insertions_run n [] [] [] s t whole kept are asks run = run ∙ sym (ap (store s n) (append-nil (list_of s n)) ∙ stored_again s n whole)
-insertions_run n [] [] (c ∷ cs) s t whole kept are asks run = absurd asks
-insertions_run n [] (d ∷ ds) cs s t whole kept are asks run = absurd are
-insertions_run n (x ∷ xs) [] cs s t whole kept are asks run = absurd are
-insertions_run n (x ∷ xs) (d ∷ ds) [] s t whole kept are asks run = absurd asks
-insertions_run n (x ∷ xs) (d ∷ ds) (c ∷ cs) s t whole kept (it, are) (asks, more) (u, step, run) =
-    let first : u ≡ store s n (list_of s n ++ d ∷ []) = inserted s u n d kept.0 (subst (λ k. Step s k done u) (insertion_asks n x d c kept.0 it asks) step) in
-    let rest : t ≡ store u n (list_of u n ++ ds) = insertions_run n xs ds cs u t (none_empty s u n (list_of s n ++ d ∷ []) whole first) kept.1 are more run in
+insertions_run : (n : List ℕ) (xs : List Edit) (ds : Documents) (s t : State) → HasNoEmpty s → AreKept ds → AreInsertions n xs ds → Accepted s xs t → t ≡ store s n (list_of s n ++ ds)
+insertions_run n [] [] s t whole kept are run = run ∙ sym (ap (store s n) (append-nil (list_of s n)) ∙ stored_again s n whole)
+insertions_run n [] (d ∷ ds) s t whole kept are run = absurd are
+insertions_run n (x ∷ xs) [] s t whole kept are run = absurd are
+insertions_run n (x ∷ xs) (d ∷ ds) s t whole kept (it, are) (u, step, run) =
+    let first : u ≡ store s n (list_of s n ++ d ∷ []) = inserted s u n d kept.0 (insertion_steps n x d s done u kept.0 it step) in
+    let rest : t ≡ store u n (list_of u n ++ ds) = insertions_run n xs ds u t (none_empty s u n (list_of s n ++ d ∷ []) whole first) kept.1 are run in
     let there : list_of u n ≡ list_of s n ++ d ∷ [] = ap (λ y. list_of y n) first ∙ own_list s n (list_of s n ++ d ∷ []) in
     rest ∙ (ap (λ y. store y n (list_of u n ++ ds)) first ∙ (store_twice s n (list_of s n ++ d ∷ []) (list_of u n ++ ds) whole
     ∙ ap (store s n) (ap (λ l. l ++ ds) there ∙ append_assoc (list_of s n) (d ∷ []) ds)))
 
-removals_run : (n : List ℕ) (ds : Documents) (xs : List Edit) (cs : List Command) (s t : State) → HasNoEmpty s → AreKept ds → list_of s n ≡ ds → AreEdits n work.Remove ds xs → AskEdits xs cs → Accepted s cs t → t ≡ store s n []
-removals_run n [] xs cs s t whole kept all none asks run = by cs (subst (λ ys. AskEdits ys cs) none asks) run
+removals_run : (n : List ℕ) (ds : Documents) (xs : List Edit) (s t : State) → HasNoEmpty s → AreKept ds → list_of s n ≡ ds → AreEdits n work.Remove ds xs → Accepted s xs t → t ≡ store s n []
+removals_run n [] xs s t whole kept all none run = subst (λ ys. Accepted s ys t) none run ∙ sym (ap (store s n) (sym all) ∙ stored_again s n whole)
+removals_run n (d ∷ ds) xs s t whole kept all (change, rest, (x, removes, is), more, split) run = by (subst (λ ys. Accepted s ys t) (split ∙ ap (λ o. listed o ++ rest) is) run) (λ u clean here goes. removals_run n ds rest u t clean kept.1 here more goes)
   where
-    by : (ks : List Command) → AskEdits [] ks → Accepted s ks t → t ≡ store s n []
-    by [] h goes = goes ∙ sym (ap (store s n) (sym all) ∙ stored_again s n whole)
-    by (k ∷ ks) h goes = absurd h
-removals_run n (d ∷ ds) xs cs s t whole kept all (change, rest, (x, removes, is), more, split) asks run =
-    by cs (subst (λ ys. AskEdits ys cs) (split ∙ ap (λ o. listed o ++ rest) is) asks) run (λ ks u clean here others goes. removals_run n ds rest ks u t clean kept.1 here more others goes)
-  where
-    by : (ks : List Command) → AskEdits (x ∷ rest) ks → Accepted s ks t → ((ls : List Command) (u : State) → HasNoEmpty u → list_of u n ≡ ds → AskEdits rest ls → Accepted u ls t → t ≡ store u n []) → t ≡ store s n []
-    by [] h goes onward = absurd h
-    by (k ∷ ks) (it, others) (u, step, goes) onward =
-        let r = removal_asks n x d k removes it in
-        let first : u ≡ store s n ds = removed s u n r.0 d ds kept.0 r.1 all (subst (λ c. Step s c done u) r.2 step) in
-        let last : t ≡ store u n [] = onward ks u (none_empty s u n ds whole first) (ap (λ y. list_of y n) first ∙ own_list s n ds) others goes in
+    by : Accepted s (x ∷ rest) t → ((u : State) → HasNoEmpty u → list_of u n ≡ ds → Accepted u rest t → t ≡ store u n []) → t ≡ store s n []
+    by (u, step, goes) onward =
+        let r = removal_steps n x d s done u removes step in
+        let first : u ≡ store s n ds = removed s u n r.0 d ds kept.0 r.1 all r.2 in
+        let last : t ≡ store u n [] = onward u (none_empty s u n ds whole first) (ap (λ y. list_of y n) first ∙ own_list s n ds) goes in
         last ∙ (ap (λ y. store y n []) first ∙ store_twice s n ds [] whole)
 
 -- two lists of changes, one after the other
-split_run : (xs ys : List Edit) (cs : List Command) (s t : State) → AskEdits (xs ++ ys) cs → Accepted s cs t
-    → (ks ls : List Command) × (u : State) × AskEdits xs ks × AskEdits ys ls × Accepted s ks u × Accepted u ls t
-split_run [] ys cs s t asks run = ([], cs, s, tt, asks, refl, run)
-split_run (x ∷ xs) ys [] s t asks run = absurd asks
-split_run (x ∷ xs) ys (c ∷ cs) s t (it, asks) (v, step, run) =
-    let r = split_run xs ys cs v t asks run in
-    (c ∷ r.0, r.1, r.2, (it, r.3), r.4, (v, step, r.5), r.6)
+split_run : (xs ys : List Edit) (s t : State) → Accepted s (xs ++ ys) t → (u : State) × Accepted s xs u × Accepted u ys t
+split_run [] ys s t run = (s, refl, run)
+split_run (x ∷ xs) ys s t (v, step, run) = let r = split_run xs ys v t run in (r.0, (v, step, r.1), r.2)
 
-pub draft_leads : (how : Transfer) (n : List ℕ) (xs : List Edit) (cs : List Command) (s t : State) → HasNoEmpty s → AreKept (list_of s n) → IsReady how n s → IsDraft how n (list_of s n) xs → AskEdits xs cs → Accepted s cs t → t ≡ transferred how n s
-draft_leads transfer.Drop n xs cs s t whole kept ready removals asks run = removals_run n (list_of s n) xs cs s t whole kept refl removals asks run
-draft_leads (transfer.Copy new) n xs cs s t whole kept ready insertions asks run =
-    insertions_run new.now xs (list_of s n) cs s t whole kept insertions asks run ∙ ap (λ l. store s new.now (l ++ list_of s n)) ready.2
-draft_leads (transfer.Rename new) n xs cs s t whole kept ready (ys, zs, removals, insertions, is) asks run =
-    let r = split_run ys zs cs s t (subst (λ l. AskEdits l cs) is asks) run in
-    let mid : r.2 ≡ store s n [] = removals_run n (list_of s n) ys r.0 s r.2 whole kept refl removals r.3 r.5 in
-    let last : t ≡ store r.2 new.now (list_of r.2 new.now ++ list_of s n) = insertions_run new.now zs (list_of s n) r.1 r.2 t (none_empty s r.2 n [] whole mid) kept insertions r.4 r.6 in
-    let none : list_of r.2 new.now ≡ [] = ap (λ y. list_of y new.now) mid ∙ still_empty s n new.now ready.2 in
-    last ∙ (ap (λ l. store r.2 new.now (l ++ list_of s n)) none ∙ ap (λ y. store y new.now (list_of s n)) mid)
+-- those of a copy never give way
+no_way : (ds : Documents) → (ds ≡ []) ⊎ (false ≡ true) → ds ≡ []
+no_way ds (inl none) = none
+no_way ds (inr way) = absurd cc
+
+pub draft_leads : (how : Transfer) (n : List ℕ) (xs : List Edit) (s t : State) → HasNoEmpty s → AreKept (list_of s n) → AreKept (displaced how s) → IsReady how n s → IsDraft how n (list_of s n) (displaced how s) xs → Accepted s xs t → t ≡ transferred how n s
+draft_leads transfer.Drop n xs s t whole kept others ready removals run = removals_run n (list_of s n) xs s t whole kept refl removals run
+draft_leads (transfer.Copy new) n xs s t whole kept others ready insertions run =
+    insertions_run new.now xs (list_of s n) s t whole kept insertions run ∙ ap (λ l. store s new.now (l ++ list_of s n)) (no_way (list_of s new.now) ready.2)
+draft_leads (transfer.Rename new drops) n xs s t whole kept others ready (ys, rs, zs, removals, more, insertions, is) run =
+    let r = split_run (ys ++ rs) zs s t (subst (λ l. Accepted s l t) is run) in
+    let q = split_run ys rs s r.0 r.1 in
+    let first : q.0 ≡ store s n [] = removals_run n (list_of s n) ys s q.0 whole kept refl removals q.1 in
+    let there : list_of q.0 new.now ≡ list_of s new.now = ap (λ y. list_of y new.now) first ∙ stays_there s n new.now drops ready.2 in
+    let clean = none_empty s q.0 n [] whole first in
+    let second : r.0 ≡ store q.0 new.now [] = removals_run new.now (list_of s new.now) rs q.0 r.0 clean others there more q.2 in
+    let last : t ≡ store r.0 new.now (list_of r.0 new.now ++ list_of s n) = insertions_run new.now zs (list_of s n) r.0 t (none_empty q.0 r.0 new.now [] clean second) kept insertions r.2 in
+    let none : list_of r.0 new.now ≡ [] = ap (λ y. list_of y new.now) second ∙ own_list q.0 new.now [] in
+    last ∙ (ap (λ l. store r.0 new.now (l ++ list_of s n)) none ∙ (ap (λ y. store y new.now (list_of s n)) second ∙ (store_twice q.0 new.now [] (list_of s n) clean
+    ∙ ap (λ y. store y new.now (list_of s n)) first)))
 
 -- ---- none of them is refused for the lists
 
@@ -188,91 +201,114 @@ removal_goes s u n id d ds k i good kept own all (inl (named, (es, answers, is))
     by (inr (none, refuses)) = let first : NoneHasId id (d ∷ ds) = subst (NoneHasId id) all none in first.0 (has_own d id kept own)
 removal_goes s u n id d ds k i good kept own all (inr (bad, refuses)) = bad good
 
-module _ (n : List ℕ) (good : IsName n) (x : Edit) (back : List Edit) (c : Command) (asked : AsksEdit x c) (u : State) (k : ErrorKind) (i : Option ℕ) (refuses : Step u c (refused k i) u) where
-  insertions_go : (xs : List Edit) (ds : Documents) (front : List Edit) (cs : List Command) (s : State) → HasNoEmpty s → AreKept ds → HaveOwnIds (list_of s n ++ ds) → AreInsertions n xs ds → xs ≡ front ++ x ∷ back → AskEdits front cs → Accepted s cs u → ⊥
-  insertions_go [] [] [] cs s whole kept own are split asks run = cc
-  insertions_go [] [] (f ∷ fs) cs s whole kept own are split asks run = cc
-  insertions_go [] (d ∷ ds) front cs s whole kept own are split asks run = are
-  insertions_go (y ∷ ys) [] front cs s whole kept own are split asks run = are
-  insertions_go (y ∷ ys) (d ∷ ds) [] [] s whole kept own (it, are) split asks run =
+module _ (n : List ℕ) (good : IsName n) (x : Edit) (back : List Edit) (u : State) (k : ErrorKind) (i : Option ℕ) (refuses : EditBy Step x u (refused k i) u) where
+  insertions_go : (xs : List Edit) (ds : Documents) (front : List Edit) (s : State) → HasNoEmpty s → AreKept ds → HaveOwnIds (list_of s n ++ ds) → AreInsertions n xs ds → xs ≡ front ++ x ∷ back → Accepted s front u → ⊥
+  insertions_go [] [] [] s whole kept own are split run = cc
+  insertions_go [] [] (f ∷ fs) s whole kept own are split run = cc
+  insertions_go [] (d ∷ ds) front s whole kept own are split run = are
+  insertions_go (y ∷ ys) [] front s whole kept own are split run = are
+  insertions_go (y ∷ ys) (d ∷ ds) [] s whole kept own (it, are) split run =
       let same : y ≡ x = cc in
-      let one : c ≡ on n (insert in_bytes (readable d)) = insertion_asks n x d c kept.0 (subst (λ z. IsInsertion n z d) same it) asked in
-      insertion_goes s u n d k i good kept.0 (free_behind (list_of s n) d ds kept.0.read own) (subst (λ z. Step z (on n (insert in_bytes (readable d))) (refused k i) u) run (subst (λ z. Step u z (refused k i) u) one refuses))
-  insertions_go (y ∷ ys) (d ∷ ds) [] (e ∷ es) s whole kept own are split asks run = absurd asks
-  insertions_go (y ∷ ys) (d ∷ ds) (f ∷ fs) [] s whole kept own are split asks run = absurd asks
-  insertions_go (y ∷ ys) (d ∷ ds) (f ∷ fs) (e ∷ es) s whole kept own (it, are) split (asks, more) (v, step, run) =
+      let one : Step u (on n (insert in_bytes (readable d))) (refused k i) u = insertion_steps n x d u (refused k i) u kept.0 (subst (λ z. IsInsertion n z d) same it) refuses in
+      insertion_goes s u n d k i good kept.0 (free_behind (list_of s n) d ds kept.0.read own) (subst (λ z. Step z (on n (insert in_bytes (readable d))) (refused k i) u) run one)
+  insertions_go (y ∷ ys) (d ∷ ds) (f ∷ fs) s whole kept own (it, are) split (v, step, run) =
       let same : y ≡ f = cc in
       let rest : ys ≡ fs ++ x ∷ back = cc in
-      let one = insertion_asks n f d e kept.0 (subst (λ z. IsInsertion n z d) same it) asks in
-      let first : v ≡ store s n (list_of s n ++ d ∷ []) = inserted s v n d kept.0 (subst (λ z. Step s z done v) one step) in
+      let one = insertion_steps n f d s done v kept.0 (subst (λ z. IsInsertion n z d) same it) step in
+      let first : v ≡ store s n (list_of s n ++ d ∷ []) = inserted s v n d kept.0 one in
       let there : list_of v n ≡ list_of s n ++ d ∷ [] = ap (λ z. list_of z n) first ∙ own_list s n (list_of s n ++ d ∷ []) in
       let whole_own : list_of s n ++ d ∷ ds ≡ list_of v n ++ ds = sym (ap (λ l. l ++ ds) there ∙ append_assoc (list_of s n) (d ∷ []) ds) in
-      insertions_go ys ds fs es v (none_empty s v n (list_of s n ++ d ∷ []) whole first) kept.1 (subst HaveOwnIds whole_own own) are rest more run
+      insertions_go ys ds fs v (none_empty s v n (list_of s n ++ d ∷ []) whole first) kept.1 (subst HaveOwnIds whole_own own) are rest run
 
   -- behind the removals come other changes
-  removals_go : (ds : Documents) (xs tail front : List Edit) (cs : List Command) (s : State) → HasNoEmpty s → AreKept ds → list_of s n ≡ ds → AreEdits n work.Remove ds xs → xs ++ tail ≡ front ++ x ∷ back → AskEdits front cs → Accepted s cs u
-      → ((fs : List Edit) (es : List Command) (v : State) → v ≡ store s n [] → tail ≡ fs ++ x ∷ back → AskEdits fs es → Accepted v es u → ⊥) → ⊥
-  removals_go [] xs tail front cs s whole kept all none split asks run onward =
-      onward front cs s (sym (ap (store s n) (sym all) ∙ stored_again s n whole)) (subst (λ ys. ys ++ tail ≡ front ++ x ∷ back) none split) asks run
-  removals_go (d ∷ ds) xs tail front cs s whole kept all (change, rest, (y, removes, is), more, parted) split asks run onward =
-      by front cs (subst (λ ys. ys ++ tail ≡ front ++ x ∷ back) (parted ∙ ap (λ o. listed o ++ rest) is) split) asks run
-      (λ fs es v clean here left others goes next. removals_go ds rest tail fs es v clean kept.1 here more left others goes next)
+  removals_go : (ds : Documents) (xs tail front : List Edit) (s : State) → HasNoEmpty s → AreKept ds → list_of s n ≡ ds → AreEdits n work.Remove ds xs → xs ++ tail ≡ front ++ x ∷ back → Accepted s front u
+      → ((fs : List Edit) (v : State) → v ≡ store s n [] → tail ≡ fs ++ x ∷ back → Accepted v fs u → ⊥) → ⊥
+  removals_go [] xs tail front s whole kept all none split run onward =
+      onward front s (sym (ap (store s n) (sym all) ∙ stored_again s n whole)) (subst (λ ys. ys ++ tail ≡ front ++ x ∷ back) none split) run
+  removals_go (d ∷ ds) xs tail front s whole kept all (change, rest, (y, removes, is), more, parted) split run onward =
+      by front (subst (λ ys. ys ++ tail ≡ front ++ x ∷ back) (parted ∙ ap (λ o. listed o ++ rest) is) split) run
+      (λ fs v clean here left goes next. removals_go ds rest tail fs v clean kept.1 here more left goes next)
     where
-      by : (fs : List Edit) (es : List Command) → (y ∷ rest) ++ tail ≡ fs ++ x ∷ back → AskEdits fs es → Accepted s es u
-          → ((gs : List Edit) (hs : List Command) (v : State) → HasNoEmpty v → list_of v n ≡ ds → rest ++ tail ≡ gs ++ x ∷ back → AskEdits gs hs → Accepted v hs u
-          → ((is : List Edit) (ks : List Command) (w : State) → w ≡ store v n [] → tail ≡ is ++ x ∷ back → AskEdits is ks → Accepted w ks u → ⊥) → ⊥) → ⊥
-      by [] [] same h goes again =
+      by : (fs : List Edit) → (y ∷ rest) ++ tail ≡ fs ++ x ∷ back → Accepted s fs u
+          → ((gs : List Edit) (v : State) → HasNoEmpty v → list_of v n ≡ ds → rest ++ tail ≡ gs ++ x ∷ back → Accepted v gs u
+          → ((is : List Edit) (w : State) → w ≡ store v n [] → tail ≡ is ++ x ∷ back → Accepted w is u → ⊥) → ⊥) → ⊥
+      by [] same goes again =
           let first : y ≡ x = cc in
-          let r = removal_asks n x d c (subst (IsRemoval n d) first removes) asked in
-          removal_goes s u n r.0 d ds k i good kept.0 r.1 all (subst (λ z. Step z (on n (remove r.0)) (refused k i) u) goes (subst (λ z. Step u z (refused k i) u) r.2 refuses))
-      by [] (e ∷ es) same h goes again = absurd h
-      by (f ∷ fs) [] same h goes again = absurd h
-      by (f ∷ fs) (e ∷ es) same (it, others) (v, step, goes) again =
+          let r = removal_steps n x d u (refused k i) u (subst (IsRemoval n d) first removes) refuses in
+          removal_goes s u n r.0 d ds k i good kept.0 r.1 all (subst (λ z. Step z (on n (remove r.0)) (refused k i) u) goes r.2)
+      by (f ∷ fs) same (v, step, goes) again =
           let first : y ≡ f = cc in
           let left : rest ++ tail ≡ fs ++ x ∷ back = cc in
-          let r = removal_asks n f d e (subst (IsRemoval n d) first removes) it in
-          let next : v ≡ store s n ds = removed s v n r.0 d ds kept.0 r.1 all (subst (λ z. Step s z done v) r.2 step) in
-          again fs es v (none_empty s v n ds whole next) (ap (λ z. list_of z n) next ∙ own_list s n ds) left others goes
-          (λ gs hs w at parts ask way. onward gs hs w (at ∙ (ap (λ z. store z n []) next ∙ store_twice s n ds [] whole)) parts ask way)
+          let r = removal_steps n f d s done v (subst (IsRemoval n d) first removes) step in
+          let next : v ≡ store s n ds = removed s v n r.0 d ds kept.0 r.1 all r.2 in
+          again fs v (none_empty s v n ds whole next) (ap (λ z. list_of z n) next ∙ own_list s n ds) left goes
+          (λ gs w at parts way. onward gs w (at ∙ (ap (λ z. store z n []) next ∙ store_twice s n ds [] whole)) parts way)
 
 -- a draft is refused for want of something alone
-draft_goes : (how : Transfer) (n : List ℕ) (s : State) (xs front : List Edit) (x : Edit) (back : List Edit) (cs : List Command) (c : Command) (u : State) (k : ErrorKind) (i : Option ℕ) → HasNoEmpty s → IsName n → AreKept (list_of s n) → HaveOwnIds (list_of s n)
-    → IsReady how n s → IsDraft how n (list_of s n) xs → xs ≡ front ++ x ∷ back → AskEdits front cs → Accepted s cs u → AsksEdit x c → Step u c (refused k i) u → ⊥
-draft_goes transfer.Drop n s xs front x back cs c u k i whole good kept own ready draft split asks run asked refuses =
-    removals_go n good x back c asked u k i refuses (list_of s n) xs [] front cs s whole kept refl draft (append-nil xs ∙ split) asks run (λ fs es v at none ask way. nothing_left fs none)
+draft_goes : (how : Transfer) (n : List ℕ) (s : State) (xs front : List Edit) (x : Edit) (back : List Edit) (u : State) (k : ErrorKind) (i : Option ℕ) → HasNoEmpty s → IsName n → AreKept (list_of s n) → HaveOwnIds (list_of s n)
+    → AreKept (displaced how s) → IsReady how n s → IsDraft how n (list_of s n) (displaced how s) xs → xs ≡ front ++ x ∷ back → Accepted s front u → EditBy Step x u (refused k i) u → ⊥
+draft_goes transfer.Drop n s xs front x back u k i whole good kept own others ready draft split run refuses =
+    removals_go n good x back u k i refuses (list_of s n) xs [] front s whole kept refl draft (append-nil xs ∙ split) run (λ fs v at none way. nothing_left fs none)
   where
     nothing_left : (fs : List Edit) → [] ≡ fs ++ x ∷ back → ⊥
     nothing_left [] e = cc
     nothing_left (f ∷ fs) e = cc
-draft_goes (transfer.Copy new) n s xs front x back cs c u k i whole good kept own ready draft split asks run asked refuses =
-    insertions_go new.now ready.1 x back c asked u k i refuses xs (list_of s n) front cs s whole kept (subst (λ l. HaveOwnIds (l ++ list_of s n)) (sym ready.2) own) draft split asks run
-draft_goes (transfer.Rename new) n s xs front x back cs c u k i whole good kept own ready (ys, zs, removals, insertions, is) split asks run asked refuses =
-    removals_go n good x back c asked u k i refuses (list_of s n) ys zs front cs s whole kept refl removals (sym is ∙ split) asks run
-    (λ fs es v at parts ask way.
-    let none : list_of v new.now ≡ [] = ap (λ z. list_of z new.now) at ∙ still_empty s n new.now ready.2 in
-    insertions_go new.now ready.1 x back c asked u k i refuses zs (list_of s n) fs es v (none_empty s v n [] whole at) kept (subst (λ l. HaveOwnIds (l ++ list_of s n)) (sym none) own) insertions parts ask way)
+draft_goes (transfer.Copy new) n s xs front x back u k i whole good kept own others ready draft split run refuses =
+    insertions_go new.now ready.1 x back u k i refuses xs (list_of s n) front s whole kept (subst (λ l. HaveOwnIds (l ++ list_of s n)) (sym (no_way (list_of s new.now) ready.2)) own) draft split run
+draft_goes (transfer.Rename new drops) n s xs front x back u k i whole good kept own others ready (ys, rs, zs, removals, more, insertions, is) split run refuses =
+    removals_go n good x back u k i refuses (list_of s n) ys (rs ++ zs) front s whole kept refl removals (sym (append_assoc ys rs zs) ∙ (sym is ∙ split)) run
+    (λ fs v at parts way.
+    let clean = none_empty s v n [] whole at in
+    let there : list_of v new.now ≡ list_of s new.now = ap (λ z. list_of z new.now) at ∙ stays_there s n new.now drops ready.2 in
+    removals_go new.now ready.1 x back u k i refuses (list_of s new.now) rs zs fs v clean others there more parts way
+    (λ gs w emptied rest goes.
+    let none : list_of w new.now ≡ [] = ap (λ z. list_of z new.now) emptied ∙ own_list v new.now [] in
+    insertions_go new.now ready.1 x back u k i refuses zs (list_of s n) gs w (none_empty v w new.now [] clean emptied) kept (subst (λ l. HaveOwnIds (l ++ list_of s n)) (sym none) own) insertions rest goes))
 
-denied_is : (y : Denial) (e : StoreError) → refused e.kind e.document ≡ refused (kind_of_denial y) None → IsFault e
-denied_is memory e is = let kind : e.kind ≡ Memory = cc in let place : e.document ≡ None = cc in (faults.Memory, ap₂ (λ k d. record { kind = k; document = d }) kind place)
-denied_is database e is = let kind : e.kind ≡ Database = cc in let place : e.document ≡ None = cc in (faults.Database, ap₂ (λ k d. record { kind = k; document = d }) kind place)
-denied_is places e is = let kind : e.kind ≡ Places = cc in let place : e.document ≡ None = cc in (faults.Places, ap₂ (λ k d. record { kind = k; document = d }) kind place)
-
-pub draft_denied : (how : Transfer) (n : List ℕ) (a : DocumentTable) (xs : List Edit) (r : ListRefusal) → AreRows a → IsName n → IsReady how n (state_of a) → IsDraft how n (list_of (state_of a) n) xs → WhyNot a xs r → IsFault r.error
-draft_denied how n a xs r rows good ready draft = by r.position
+pub draft_denied : (how : Transfer) (n : List ℕ) (a : DocumentTable) (xs : List Edit) (r : ListRefusal) → AreRows a → IsName n → AreKept (displaced how (state_of a)) → IsReady how n (state_of a) → IsDraft how n (list_of (state_of a) n) (displaced how (state_of a)) xs → WhyNot a xs r → IsFault r.error
+draft_denied how n a xs r rows good others ready draft = by r.position
   where
     lists : IsStore (state_of a)
     lists = rows_are_a_state a rows
 
-    at : (i : ℕ) (st : StopsAt a xs i r.error) (y : Option Denial) → Turn y st.s st.c (refused r.error.kind r.error.document) st.s → IsFault r.error
-    at i st None turn =
-        absurd (draft_goes how n (state_of a) xs st.front st.x st.back st.asked st.c st.s r.error.kind r.error.document (rows_not_empty a) good (lists.kept n) (lists.own_ids n) ready draft st.split st.asks st.run st.it turn)
-    at i st (Some y) (is, stays) = denied_is y r.error is
+    at : (i : ℕ) (st : StopsAt a xs i r.error) → IsFault r.error
+    at i st = elim st.refuses [
+      | inl refuses ↦ absurd (draft_goes how n (state_of a) xs st.front st.x st.back st.s r.error.kind r.error.document (rows_not_empty a) good (lists.kept n) (lists.own_ids n) others ready draft st.split st.run refuses)
+      | inr denied ↦ denied.0
+    ]
 
     by : (p : Option ℕ) → MatchOption p (IsFault r.error) (λ i. StopsAt a xs i r.error) → IsFault r.error
     by None h = h
-    by (Some i) h = at i h h.denial h.turn
+    by (Some i) h = at i h
 
 -- ---- one body after the other
+
+module _ (n : List ℕ) (bodies : List (Vec ℕ Global)) (ds : Documents) (kept : AreKept ds) (same : bytes_of_each bodies ≡ map encode ds) (before : List Edit) where
+  -- so many of the documents have their removals, behind the changes that were there
+  abbrev pub RemovedSoFar : ℕ → List Edit → Type 0
+  RemovedSoFar i edits = (xs : List Edit) × AreEdits n work.Remove (take i ds) xs × (edits ≡ before ++ xs)
+
+  pub none_removed : RemovedSoFar 0 before
+  none_removed = ([], subst (λ l. AreEdits n work.Remove l []) (sym (take_none ds)) refl, sym (append-nil before))
+
+  pub one_removed : (i : ℕ) (x : Vec ℕ Global) (old new : List Edit) → i < length bodies → x ≡ get_or bodies i x
+      → ((d : Members) → IsKept d → x.items ≡ encode d → (y : Edit) × IsRemoval n d y × (new ≡ old ++ y ∷ [])) → RemovedSoFar i old → RemovedSoFar (i + 1) new
+  one_removed i x old new low is removes (xs, are, all) =
+      let e = entry bodies ds i x kept same low is in
+      let r = removes e.0 e.1 e.2 in
+      let next : take (i + 1) ds ≡ take i ds ++ e.0 ∷ [] = take_more ds i e.0 e.4 ∙ ap (λ (d : Members). take i ds ++ d ∷ []) (sym e.3) in (
+        xs ++ r.0 ∷ [],
+        subst (λ l. AreEdits n work.Remove l (xs ++ r.0 ∷ [])) (sym next) (one_more n work.Remove (take i ds) xs e.0 (Some r.0) are (r.0, r.1, refl)),
+        r.2 ∙ (ap (λ l. l ++ r.0 ∷ []) all ∙ append_assoc before xs (r.0 ∷ [])),
+      )
+
+  pub none_more : (i : ℕ) (x : Vec ℕ Global) (e : StoreError) → i < length bodies → x ≡ get_or bodies i x → ((d : Members) → IsKept d → x.items ≡ encode d → e ≡ refusal Memory) → e ≡ refusal Memory
+  none_more i x e low is why = let d = entry bodies ds i x kept same low is in why d.0 d.1 d.2
+
+  pub all_removed : (i : ℕ) (new : List Edit) → length bodies ≤ i → RemovedSoFar i new → (xs : List Edit) × AreEdits n work.Remove ds xs × (new ≡ before ++ xs)
+  all_removed i new end (xs, are, all) =
+      let long : length ds ≡ length bodies = sym (length-map ds encode) ∙ (ap length (sym same) ∙ length-map bodies (λ (v : Vec ℕ Global). v.items)) in
+      (xs, subst (λ l. AreEdits n work.Remove l xs) (take_all i ds (omega (arith, long, end))) are, all)
 
 -- the document of the body at a place
 body_at : (bodies : List (Vec ℕ Global)) (ds : Documents) (i : ℕ) (x : Vec ℕ Global) → bytes_of_each bodies ≡ map encode ds → i < length bodies → x ≡ get_or bodies i x → (d : Members) × (x.items ≡ encode d) × (d ≡ get_or ds i d) × (i < length ds)
@@ -307,3 +343,23 @@ module _ (n : List ℕ) (bodies : List (Vec ℕ Global)) (ds : Documents) (same 
   all_inserted i new end (xs, are, all) =
       let long : length ds ≡ length bodies = sym (length-map ds encode) ∙ (ap length (sym same) ∙ length-map bodies (λ (v : Vec ℕ Global). v.items)) in
       (xs, subst (λ l. AreInsertions n xs l) (take_all i ds (omega (arith, long, end))) are, all)
+
+-- ---- the changes of each sort, where none were before
+
+abbrev pub Added : (List Edit → Type 0) → List Edit → List Edit → Type 0
+Added Are old new = (xs : List Edit) × Are xs × (new ≡ old ++ xs)
+
+pub drop_of : (n : List ℕ) (ds es : Documents) (old new : List Edit) (r : Result (Unit {0}) StoreError) → old ≡ [] → MatchResult r (λ _. Added (AreEdits n work.Remove ds) old new) (λ e. e ≡ refusal Memory) → MatchResult r (λ _. IsDraft transfer.Drop n ds es new) (λ e. e ≡ refusal Memory)
+drop_of n ds es old new (Ok x) none (xs, are, is) = subst (AreEdits n work.Remove ds) (sym (is ∙ ap (λ l. l ++ xs) none)) are
+drop_of n ds es old new (Err e) none is = is
+
+pub copy_of : (name : Bor (List ℕ)) (n : List ℕ) (ds es : Documents) (old new : List Edit) (r : Result (Unit {0}) StoreError) → old ≡ [] → MatchResult r (λ _. Added (λ xs. AreInsertions name.now xs ds) old new) (λ e. e ≡ refusal Memory)
+    → MatchResult r (λ _. IsDraft (transfer.Copy name) n ds es new) (λ e. e ≡ refusal Memory)
+copy_of name n ds es old new (Ok x) none (xs, are, is) = subst (λ ys. AreInsertions name.now ys ds) (sym (is ∙ ap (λ l. l ++ xs) none)) are
+copy_of name n ds es old new (Err e) none is = is
+
+pub renaming_of : (name : Bor (List ℕ)) (drops : Bool) (n : List ℕ) (ds es : Documents) (old first second last : List Edit) (r : Result (Unit {0}) StoreError) → old ≡ [] → Added (AreEdits n work.Remove ds) old first → Added (AreEdits name.now work.Remove es) first second
+    → MatchResult r (λ _. Added (λ xs. AreInsertions name.now xs ds) second last) (λ e. e ≡ refusal Memory) → MatchResult r (λ _. IsDraft (transfer.Rename name drops) n ds es last) (λ e. e ≡ refusal Memory)
+renaming_of name drops n ds es old first second last (Ok x) none (ys, removals, a) (rs, more, b) (zs, insertions, c) =
+    (ys, rs, zs, removals, more, insertions, c ∙ ap (λ l. l ++ zs) (b ∙ ap (λ l. l ++ rs) (a ∙ ap (λ l. l ++ ys) none)))
+renaming_of name drops n ds es old first second last (Err e) none a b is = is

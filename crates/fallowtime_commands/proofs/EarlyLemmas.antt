@@ -50,9 +50,9 @@ module _ (n : List ℕ) (s : State) (k : ErrorKind) where
   stays (request.Remove id) (is, why) = absurd cc
   stays (request.Find g a) (is, why) = absurd cc
   stays (request.FindAndChange g w k) (is, why) = absurd cc
-  stays (request.Count g) (is, why) = absurd cc
+  stays (request.Count g p) (is, why) = absurd cc
   stays (request.Distinct path g counts) (is, why) = absurd cc
-  stays (request.Import stream) (is, why) = absurd cc
+  stays (request.Import stream e) (is, why) = absurd cc
   stays (request.Transfer how) (is, why) = absurd cc
   stays (request.Index path) (is, why) = absurd cc
   stays (request.DropIndex path) (is, why) = absurd cc
@@ -73,9 +73,9 @@ module _ (n : List ℕ) (s : State) (k : ErrorKind) where
   leaves (request.Remove id) (is, why) = absurd cc
   leaves (request.Find g a) (is, why) = absurd cc
   leaves (request.FindAndChange g w k) (is, why) = absurd cc
-  leaves (request.Count g) (is, why) = absurd cc
+  leaves (request.Count g p) (is, why) = absurd cc
   leaves (request.Distinct path g counts) (is, why) = absurd cc
-  leaves (request.Import stream) (is, why) = absurd cc
+  leaves (request.Import stream e) (is, why) = absurd cc
   leaves (request.Transfer how) (is, why) = absurd cc
   leaves (request.Index path) (is, why) = absurd cc
   leaves (request.DropIndex path) (is, why) = absurd cc

@@ -41,7 +41,7 @@ use Rattle.fallowtime_requests.specs.declared.request.Work.TheVariants as work
 use Rattle.fallowtime_commands.proofs.ChangeLemmas.{chosen_kept, keeps_kept}
 use Rattle.fallowtime_commands.specs.Asking.{chosen}
 use Rattle.fallowtime_commands.specs.Changing.{Becomes, CanBe, Exchanges, IsRemoval, IsReplacement, IsUnfound, IsUnmadeAt, outcome_of}
-use Rattle.fallowtime_commands.specs.Finding.{AppliesOne, AreFirst, bytes_after, ChangesOne, DraftsOne, FindsAndChanges, first_limit, first_of, IsAfter, IsFound, IsPartOf, IsReturned}
+use Rattle.fallowtime_commands.specs.Finding.{AppliesOne, AreFirst, bytes_after, ChangesBody, ChangesOne, DraftsOne, FindsAndChanges, first_limit, first_of, IsAfter, IsFound, IsPartOf, IsReturned}
 use Rattle.fallowtime_commands.specs.Left.{LeavesApplied, LeavesFound}
 use Rattle.fallowtime_commands.specs.Performing.{reply_of}
 use Rattle.fallowtime_commands.specs.declared.answer.Answer.{Answer}
@@ -128,6 +128,8 @@ bodies_written (b ∷ bodies) (d ∷ ds) are = let rest = bodies_written bodies 
 replaced : (n : List ℕ) (e : Members) (x : Edit) (body : List ℕ) → IsReplacement n e x → bytes_after (Some x) body ≡ encode e
 replaced n e (edits.ReplaceRaw name bytes) body puts = puts.1
 replaced n e (edits.InsertRaw name bytes) body puts = absurd puts
+replaced n e (edits.PutRaw name bytes) body puts = absurd puts
+replaced n e (edits.KeepRaw name bytes) body puts = absurd puts
 replaced n e (edits.Remove name id) body puts = absurd puts
 
 exchanged : (n : List ℕ) (d e : Members) (change : Option Edit) (body : List ℕ) → body ≡ encode d → Exchanges n d e change → bytes_after change body ≡ encode e
@@ -138,6 +140,8 @@ unmoved : (n : List ℕ) (d : Members) (x : Edit) (body : List ℕ) → IsRemova
 unmoved n d (edits.Remove name id) body removes = refl
 unmoved n d (edits.ReplaceRaw name bytes) body removes = absurd removes
 unmoved n d (edits.InsertRaw name bytes) body removes = absurd removes
+unmoved n d (edits.PutRaw name bytes) body removes = absurd removes
+unmoved n d (edits.KeepRaw name bytes) body removes = absurd removes
 
 removed : (n : List ℕ) (d : Members) (x : Edit) (change : Option Edit) (body : List ℕ) → body ≡ encode d → IsRemoval n d x → change ≡ Some x → bytes_after change body ≡ encode d
 removed n d x change body is removes there = subst (λ c. bytes_after c body ≡ encode d) (sym there) (unmoved n d x body removes ∙ is)
@@ -250,35 +254,41 @@ module _ (n : List ℕ) (form : Form) (w : Wanted) (k : Work) where
 
   -- ---- rows
 
+  pub unfound_rows : (e : StoreError) (docs after : List TableRow) → AskedFrom (AreFirst w.arrangement) n form (Err e) docs after → FindsAndChanges n form w k (Err e) docs after
+  unfound_rows e docs after h q reads a shown = inl (unfound_are n form q w.arrangement e docs after a reads shown h)
+
+  pub none_rows : (bodies : Bodies) (docs after : List TableRow) → bytes_of_each bodies.items ≡ [] → Finding bodies docs after → FindsAndChanges n form w k (Ok (answer.Found None)) docs after
+  none_rows bodies docs after none h q reads a shown =
+      let x = found_are n form q w.arrangement bodies docs after a reads shown h in
+      inr (x.good, ([], (x.kept, x.all, x.keeps, x.arranged, sym (none_there x.all (sym none ∙ x.are))), (refl, x.same)))
+
+  pub changed_rows : (bodies : Bodies) (body : List ℕ) (o : Result Answer StoreError) (docs mid after : List TableRow) → (rest : List (List ℕ)) × (bytes_of_each bodies.items ≡ body ∷ rest) → Finding bodies docs mid → ChangesBody n w k body o mid after → FindsAndChanges n form w k o docs after
+  changed_rows bodies body o docs mid after (rest, front) h changes q reads a shown =
+      let x = found_are n form q w.arrangement bodies docs mid a reads shown h in
+      let y = one_there x.all body rest (sym front ∙ x.are) x.are_kept in
+      inr (x.good, (y.0 ∷ [], (x.kept, x.all, x.keeps, x.arranged, sym y.1), subst (λ (rows : List TableRow). ChangesOne n w k y.0 o rows after) x.same (changes y.0 y.2 y.3)))
+
+  pub unmade_body : (body : List ℕ) (why : Unmade) (docs : List TableRow) → Stops body why → ChangesBody n w k body (outcome_of why) docs docs
+  unmade_body body why docs stops d kept is = made_of_none d why docs (stops d kept is)
+
+  pub applied_body : (body : List ℕ) (xs : List Edit) (returned : Vec ℕ Global) (o : Result Answer StoreError) (docs after : List TableRow) → Drafts body xs returned → AppliesOne xs returned o docs after → ChangesBody n w k body o docs after
+  applied_body body xs returned o docs after drafts applies d kept is = applied d xs returned o docs after (drafts d kept is) applies
+
   pub unfound_moves : (s t : State) (e : StoreError) → Moves s t (AskedFrom (AreFirst w.arrangement) n form (Err e)) → Moves s t (FindsAndChanges n form w k (Err e))
-  unfound_moves s t e m =
-      moved s t (AskedFrom (AreFirst w.arrangement) n form (Err e)) (FindsAndChanges n form w k (Err e)) m (λ docs after h q reads a shown. inl (unfound_are n form q w.arrangement e docs after a reads shown h))
+  unfound_moves s t e m = moved s t (AskedFrom (AreFirst w.arrangement) n form (Err e)) (FindsAndChanges n form w k (Err e)) m (λ docs after h. unfound_rows e docs after h)
 
   pub none_moves : (s t : State) (bodies : Bodies) → bytes_of_each bodies.items ≡ [] → Moves s t (Finding bodies) → Moves s t (FindsAndChanges n form w k (Ok (answer.Found None)))
-  none_moves s t bodies none m =
-      moved s t (Finding bodies) (FindsAndChanges n form w k (Ok (answer.Found None))) m
-      (λ docs after h q reads a shown.
-      let x = found_are n form q w.arrangement bodies docs after a reads shown h in
-      inr (x.good, ([], (x.kept, x.all, x.keeps, x.arranged, sym (none_there x.all (sym none ∙ x.are))), (refl, x.same))))
+  none_moves s t bodies none m = moved s t (Finding bodies) (FindsAndChanges n form w k (Ok (answer.Found None))) m (λ docs after h. none_rows bodies docs after none h)
 
   pub unmade_moves : (s t : State) (bodies : Bodies) (body : List ℕ) (why : Unmade) → (rest : List (List ℕ)) × (bytes_of_each bodies.items ≡ body ∷ rest) → Stops body why → Moves s t (Finding bodies) → Moves s t (FindsAndChanges n form w k (outcome_of why))
-  unmade_moves s t bodies body why (rest, front) stops m =
-      moved s t (Finding bodies) (FindsAndChanges n form w k (outcome_of why)) m
-      (λ docs after h q reads a shown.
-      let x = found_are n form q w.arrangement bodies docs after a reads shown h in
-      let y = one_there x.all body rest (sym front ∙ x.are) x.are_kept in
-      let made = made_of_none y.0 why docs (stops y.0 y.2 y.3) in
-      inr (x.good, (y.0 ∷ [], (x.kept, x.all, x.keeps, x.arranged, sym y.1), subst (λ (rows : List TableRow). ChangesOne n w k y.0 (outcome_of why) docs rows) (sym x.same) made)))
+  unmade_moves s t bodies body why front stops m =
+      moved s t (Finding bodies) (FindsAndChanges n form w k (outcome_of why)) m (λ docs after h. changed_rows bodies body (outcome_of why) docs after after front h (unmade_body body why after stops))
 
   pub applied_moves : (s m t : State) (bodies : Bodies) (body : List ℕ) (xs : List Edit) (returned : Vec ℕ Global) (o : Result Answer StoreError) → (rest : List (List ℕ)) × (bytes_of_each bodies.items ≡ body ∷ rest) → Drafts body xs returned
       → Moves s m (Finding bodies) → Moves m t (AppliesOne xs returned o) → Moves s t (FindsAndChanges n form w k o)
-  applied_moves s m t bodies body xs returned o (rest, front) drafts first second =
+  applied_moves s m t bodies body xs returned o front drafts first second =
       moved_twice s m t (Finding bodies) (AppliesOne xs returned o) (FindsAndChanges n form w k o) first second
-      (λ docs mid after h applies q reads a shown.
-      let x = found_are n form q w.arrangement bodies docs mid a reads shown h in
-      let y = one_there x.all body rest (sym front ∙ x.are) x.are_kept in
-      let done = applied y.0 xs returned o mid after (drafts y.0 y.2 y.3) applies in
-      inr (x.good, (y.0 ∷ [], (x.kept, x.all, x.keeps, x.arranged, sym y.1), subst (λ (rows : List TableRow). ChangesOne n w k y.0 o rows after) x.same done)))
+      (λ docs mid after h applies. changed_rows bodies body o docs mid after front h (applied_body body xs returned o mid after drafts applies))
 
   -- ---- what a crash leaves
 

@@ -1,12 +1,12 @@
 mod PrintLemmas
 mod AlterLemmas
-mod AskLemmas
+pub mod AskLemmas
 mod EarlyLemmas
 mod KeepLemmas
 pub mod PutLemmas
 pub mod SetLemmas
-mod ChangeLemmas
-mod FindingLemmas
+pub mod ChangeLemmas
+pub mod FindingLemmas
 mod IndexLemmas
 mod ReplaceLemmas
 mod ReturnLemmas
@@ -16,6 +16,7 @@ pub mod OutcomeLemmas
 mod TotalLemmas
 mod TransferLemmas
 mod DraftLemmas
-mod UpsertLemmas
+mod EnterLemmas
+pub mod UpsertLemmas
 mod WantLemmas
 pub mod CrashLemmas

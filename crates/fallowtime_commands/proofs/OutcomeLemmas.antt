@@ -72,9 +72,9 @@ module _ (f : Form) (text : List ℕ) where
   of_id (request.Remove id) v h is = absurd cc
   of_id (request.Find q wanted) v h is = absurd is
   of_id (request.FindAndChange q wanted w) v h is = absurd (no_id_found w v is)
-  of_id (request.Count q) v h is = absurd is
+  of_id (request.Count q p) v h is = absurd is
   of_id (request.Distinct path q counts) v h is = absurd is
-  of_id (request.Import stream) v h is = absurd is
+  of_id (request.Import stream x) v h is = absurd is
   of_id (request.Transfer how) v h is = absurd is
   of_id (request.Index path) v h is = absurd cc
   of_id (request.DropIndex path) v h is = absurd cc
@@ -97,9 +97,9 @@ module _ (f : Form) (text : List ℕ) where
   of_upserted (request.Remove id) v h is = absurd cc
   of_upserted (request.Find q wanted) v h is = absurd is
   of_upserted (request.FindAndChange q wanted w) v h is = absurd (no_upsert_found w v is)
-  of_upserted (request.Count q) v h is = absurd is
+  of_upserted (request.Count q p) v h is = absurd is
   of_upserted (request.Distinct path q counts) v h is = absurd is
-  of_upserted (request.Import stream) v h is = absurd is
+  of_upserted (request.Import stream x) v h is = absurd is
   of_upserted (request.Transfer how) v h is = absurd is
   of_upserted (request.Index path) v h is = absurd cc
   of_upserted (request.DropIndex path) v h is = absurd cc

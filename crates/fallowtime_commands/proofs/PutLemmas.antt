@@ -12,11 +12,12 @@ use Rattle.store_model.specs.Table.{state_of}
 use Rattle.store_model.specs.declared.error.ErrorKind.{ErrorKind}
 use Rattle.store_model.specs.declared.error.ErrorKind.TheVariants.{NotFound}
 use Rattle.bson_store.specs.Calls.{DoesBytes}
+use Rattle.bson_store.specs.Drafting.{HasReplaced}
 use Rattle.bson_store.specs.Left.{Holds, LeavesBytes}
 use Rattle.bson_store.proofs.CrashLemmas.{survives_itself}
 use Rattle.bson_store.proofs.MoveLemmas.{moved, moved_twice, rests}
 use Rattle.fallowtime_commands.specs.Left.{LeavesPut}
-use Rattle.fallowtime_commands.specs.Storing.{HasReplaced, IsFit, IsUnasked, Puts, Stores}
+use Rattle.fallowtime_commands.specs.Storing.{IsFit, IsUnasked, Puts, Stores}
 
 -- a refusal of a kind other than NotFound doesn't come from a missing document
 pub other_kind : (k : ErrorKind) (i : Option ℕ) → (k ≡ NotFound → ⊥) → HasReplaced (refused k i)

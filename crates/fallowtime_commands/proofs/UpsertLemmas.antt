@@ -28,14 +28,14 @@ use Rattle.bson_store.specs.Whole.{HoldsDone}
 use Rattle.bson_store.specs.declared.edit.Edit.{Edit}
 use Rattle.bson_store.proofs.MoveLemmas.{moved, moved_twice, rests}
 use Rattle.fallowtime_commands.specs.Asking.{AreChosen}
-use Rattle.fallowtime_commands.specs.Changing.{AreEdits, Applies, Changes, outcome_of}
+use Rattle.fallowtime_commands.specs.Changing.{AreEdits, Applies, Changes, ChangesBodies, outcome_of}
 use Rattle.fallowtime_commands.specs.Left.{LeavesApplied, LeavesEnd, LeavesStored, LeavesUpsert, LeftByUpsert}
 use Rattle.fallowtime_commands.specs.Performing.{IsChange, IsEnd, IsUpsert, reply_of}
 use Rattle.fallowtime_commands.specs.Upserting.{Ends, Upserts, UpsertsFound}
 use Rattle.fallowtime_commands.specs.declared.answer.Answer.{Answer}
 use Rattle.fallowtime_commands.specs.declared.answer.Answer.TheVariants.{NotUpserted, Upserted}
 use Rattle.fallowtime_commands.specs.declared.changing.Unmade.{Unmade}
-use Rattle.fallowtime_commands.proofs.ChangeLemmas.{AllHave, AllStop, Bodies, Finding, applied, as_many, found_are, made_of_none, unfound_are}
+use Rattle.fallowtime_commands.proofs.ChangeLemmas.{AllHave, AllStop, Bodies, Finding, applied_bodies, found_are, unfound_are, unmade_bodies}
 use Rattle.fallowtime_requests.specs.declared.request.Otherwise.{Otherwise}
 use Rattle.fallowtime_requests.specs.declared.request.Otherwise.TheVariants.{Insert, Refuse}
 use Rattle.fallowtime_requests.specs.declared.request.Work.{Work}
@@ -71,34 +71,32 @@ left From Done n w u [] xs some edits has = absurd (some refl)
 left From Done n w u (d ∷ ds) xs some edits has = (xs, edits, has)
 
 module _ (n : List ℕ) (form : Form) (w : Work) (many : Bool) (u : Otherwise) where
+  pub unfound_rows : (e : StoreError) (r : Reply) (docs after : List TableRow) → AskedFrom (AreChosen many) n form (Err e) docs after → UpsertsFound n form w many u (Err e) r docs after
+  unfound_rows e r docs after h q reads a shown = inl (unfound_are n form q many e docs after a reads shown h)
+
   pub unfound_moves : (s t : State) (e : StoreError) (r : Reply) → Moves s t (AskedFrom (AreChosen many) n form (Err e)) → Moves s t (UpsertsFound n form w many u (Err e) r)
-  unfound_moves s t e r m =
-      moved s t (AskedFrom (AreChosen many) n form (Err e)) (UpsertsFound n form w many u (Err e) r) m (λ docs after h q reads a shown. inl (unfound_are n form q many e docs after a reads shown h))
+  unfound_moves s t e r m = moved s t (AskedFrom (AreChosen many) n form (Err e)) (UpsertsFound n form w many u (Err e) r) m (λ docs after h. unfound_rows e r docs after h)
 
   -- ---- some answer
 
   module _ (bodies : Bodies) (some : length bodies.items ≡ 0 → ⊥) where
-    pub unmade_moves : (s t : State) (why : Unmade) (r : Reply) → AllStop n form w many bodies why → Moves s t (Finding n form w many bodies) → Moves s t (UpsertsFound n form w many u (outcome_of why) r)
-    unmade_moves s t why r stop m =
-        moved s t (Finding n form w many bodies) (UpsertsFound n form w many u (outcome_of why) r) m
-        (λ docs after h q reads a shown.
-        let x = found_are n form q many bodies docs after a reads shown h in
-        let made = made_of_none n w x.documents why docs (stop x.documents x.are_kept x.are) in
-        let there : Changes n w x.documents (outcome_of why) docs after = subst (λ (rows : List TableRow). Changes n w x.documents (outcome_of why) docs rows) (sym x.same) made in
-        inr (x.good, (x.documents, x.meant, changed n w u x.documents (outcome_of why) r docs after (some_are bodies x.documents some x.are) there)))
+    pub changed_rows : (o : Result Answer StoreError) (r : Reply) (docs mid after : List TableRow) → Finding n form w many bodies docs mid → ChangesBodies n w bodies.items o mid after → UpsertsFound n form w many u o r docs after
+    changed_rows o r docs mid after h changes q reads a shown =
+        let x = found_are n form q many bodies docs mid a reads shown h in
+        let there : Changes n w x.documents o docs after = subst (λ (rows : List TableRow). Changes n w x.documents o rows after) x.same (changes x.documents x.are_kept x.are) in
+        inr (x.good, (x.documents, x.meant, changed n w u x.documents o r docs after (some_are bodies x.documents some x.are) there))
 
-    pub applied_moves : (s m t : State) (xs : List Edit) (k : ℕ) (o : Result Answer StoreError) (r : Reply) → k ≡ length bodies.items → AllHave n form w many bodies xs
+    pub unmade_moves : (s t : State) (why : Unmade) (r : Reply) → AllStop n w bodies why → Moves s t (Finding n form w many bodies) → Moves s t (UpsertsFound n form w many u (outcome_of why) r)
+    unmade_moves s t why r stop m =
+        moved s t (Finding n form w many bodies) (UpsertsFound n form w many u (outcome_of why) r) m (λ docs after h. changed_rows (outcome_of why) r docs after after h (unmade_bodies n w bodies why after stop))
+
+    pub applied_moves : (s m t : State) (xs : List Edit) (k : ℕ) (o : Result Answer StoreError) (r : Reply) → k ≡ length bodies.items → AllHave n w bodies xs
         → Moves s m (Finding n form w many bodies) → Moves m t (Applies w xs k o) → Moves s t (UpsertsFound n form w many u o r)
     applied_moves s m t xs k o r count have first second =
         moved_twice s m t (Finding n form w many bodies) (Applies w xs k o) (UpsertsFound n form w many u o r) first second
-        (λ docs mid after h applies q reads a shown.
-        let x = found_are n form q many bodies docs mid a reads shown h in
-        let all : k ≡ length x.documents = as_many bodies.items k count ∙ (ap length x.are ∙ length-map x.documents encode) in
-        let done = applied n w x.documents xs k o mid after all (have x.documents x.are_kept x.are) applies in
-        let there : Changes n w x.documents o docs after = subst (λ (rows : List TableRow). Changes n w x.documents o rows after) x.same done in
-        inr (x.good, (x.documents, x.meant, changed n w u x.documents o r docs after (some_are bodies x.documents some x.are) there)))
+        (λ docs mid after h applies. changed_rows o r docs mid after h (applied_bodies n w bodies xs k o mid after count have applies))
 
-    pub applied_leaves : (s m t : State) (xs : List Edit) (k : ℕ) (o : Result Answer StoreError) → AllHave n form w many bodies xs
+    pub applied_leaves : (s m t : State) (xs : List Edit) (k : ℕ) (o : Result Answer StoreError) → AllHave n w bodies xs
         → Moves s m (Finding n form w many bodies) → Survives s m (λ _. ⊥) → Moves m t (Applies w xs k o) → LeavesApplied xs o m t → LeavesUpsert n form w many u (reply_of o) s t
     applied_leaves s m t xs k (Ok x) have first_move survives second_move leaves clean first docs beside stands a shown db may q reads =
         let early = (second_move clean).0 in
@@ -122,13 +120,15 @@ module _ (n : List ℕ) (form : Form) (w : Work) (many : Bool) (u : Otherwise) w
 -- ---- none answers
 
 module _ (n : List ℕ) (form : Form) (w : Work) (many : Bool) (bodies : Bodies) (none : length bodies.items ≡ 0) where
-  pub ended_moves : (s m t : State) (u : Otherwise) (o : Result Answer StoreError) (r : Reply) → Moves s m (Finding n form w many bodies) → Moves m t (Ends n u o r) → Moves s t (UpsertsFound n form w many u o r)
-  ended_moves s m t u o r first second =
-      moved_twice s m t (Finding n form w many bodies) (Ends n u o r) (UpsertsFound n form w many u o r) first second
-      (λ docs mid after h ends q reads a shown.
+  pub ended_rows : (u : Otherwise) (o : Result Answer StoreError) (r : Reply) (docs mid after : List TableRow) → Finding n form w many bodies docs mid → Ends n u o r mid after → UpsertsFound n form w many u o r docs after
+  ended_rows u o r docs mid after h ends q reads a shown =
       let x = found_are n form q many bodies docs mid a reads shown h in
       let there : Ends n u o r docs after = subst (λ (rows : List TableRow). Ends n u o r rows after) x.same ends in
-      inr (x.good, (x.documents, x.meant, subst (λ (ds : Documents). Upserts n w u ds o r docs after) (sym (none_are bodies x.documents none x.are)) there)))
+      inr (x.good, (x.documents, x.meant, subst (λ (ds : Documents). Upserts n w u ds o r docs after) (sym (none_are bodies x.documents none x.are)) there))
+
+  pub ended_moves : (s m t : State) (u : Otherwise) (o : Result Answer StoreError) (r : Reply) → Moves s m (Finding n form w many bodies) → Moves m t (Ends n u o r) → Moves s t (UpsertsFound n form w many u o r)
+  ended_moves s m t u o r first second =
+      moved_twice s m t (Finding n form w many bodies) (Ends n u o r) (UpsertsFound n form w many u o r) first second (λ docs mid after h ends. ended_rows u o r docs mid after h ends)
 
   -- a refusal that could leave no more than the look-up leaves no more than before
   stopped_leaves : (s m t : State) (u : Otherwise) (r : Reply) → IsRefusal r → Survives s m (λ _. ⊥) → Survives m t (λ _. ⊥) → LeavesUpsert n form w many u r s t

@@ -1,5 +1,5 @@
 -- What is replied to a question about a collection, or about all.
-use Rattle.std.specs.Prelude.{◌≡◌, ℕ, List, [], ◌∷◌, map, length, sum_by, Bool, true, false, Result, Ok, Err, Vec}
+use Rattle.std.specs.Prelude.{◌≡◌, ◌-◌, ℕ, min, List, [], ◌∷◌, map, length, sum_by, Bool, true, false, Option, Some, None, Result, Ok, Err, Vec}
 use Rattle.std.specs.declared.alloc.Global.{Global}
 use Rattle.bson_bytes.specs.Encode.{encode}
 use Rattle.store_asked.specs.Asking.{AskedFrom}
@@ -20,6 +20,7 @@ use Rattle.bson_store.specs.Questions.{as_list}
 use Rattle.bson_store.specs.Refusals.{as_number, reply_by}
 use Rattle.bson_store.specs.Shown.{Represents}
 use Rattle.fallowtime_requests.specs.Fields.{left_by}
+use Rattle.fallowtime_requests.specs.declared.request.Part.{Part}
 use Rattle.fallowtime_requests.specs.declared.request.Wanted.{Wanted}
 use Rattle.fallowtime_commands.specs.declared.answer.Answer.{Answer}
 use Rattle.fallowtime_commands.specs.declared.answer.Answer.TheVariants as answer
@@ -49,9 +50,21 @@ AreWanted w bodies ds = (es : Documents) × ArrangedBy w.arrangement ds es × Ar
 abbrev pub Finds : List ℕ → Form → Wanted → model.Reply → List TableRow → List TableRow → Type 0
 Finds n form w r old new = (outcome : Result (Vec (Vec ℕ Global) Global) StoreError) × (r ≡ reply_by as_list outcome) × AskedFrom (AreWanted w) n form outcome old new
 
--- how many they are
-abbrev pub Counts : List ℕ → Form → model.Reply → List TableRow → List TableRow → Type 0
-Counts n form r old new = (outcome : Result ℕ StoreError) × (r ≡ reply_by as_number outcome) × AskedFrom IsNumberOf n form outcome old new
+-- at most so many, if there is a most
+abbrev pub at_most : Option ℕ → ℕ → ℕ
+at_most None k = k
+at_most (Some limit) k = min k limit
+
+-- how many of so many documents a part has
+abbrev pub counted : Part → ℕ → ℕ
+counted p k = at_most p.limit (k - p.skip)
+
+abbrev pub HasPart : Part → ℕ → Documents → Type 0
+HasPart p n ds = n ≡ counted p (length ds)
+
+-- how many of them a part has
+abbrev pub Counts : List ℕ → Form → Part → model.Reply → List TableRow → List TableRow → Type 0
+Counts n form p r old new = (outcome : Result ℕ StoreError) × (r ≡ reply_by as_number outcome) × AskedFrom (HasPart p) n form outcome old new
 
 -- the different values at the path of these documents, each with how many of them have it
 abbrev pub AreCounted : Path → Vec Counted Global → Documents → Type 0

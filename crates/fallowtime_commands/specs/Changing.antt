@@ -1,12 +1,13 @@
 -- Changes of documents: each becomes what an update makes of it, or another document, or is removed, all of them in one
 -- step, or none.
-use Rattle.std.specs.Prelude.{◌≡◌, ◌⊎◌, ℕ, List, [], ◌∷◌, ◌++◌, length, Bool, false, if◌then◌else◌, Option, Some, None, Result, Ok, Err, string_bytes}
+use Rattle.std.specs.Prelude.{◌≡◌, ◌⊎◌, ℕ, List, [], ◌∷◌, ◌++◌, length, map, Bool, false, if◌then◌else◌, Option, Some, None, Result, Ok, Err, Vec, string_bytes}
+use Rattle.std.specs.declared.alloc.Global.{Global}
 use Rattle.bson_base.specs.Value.{Value, Members, has_key, look_up, member, put}
 use Rattle.bson_bytes.specs.Encode.{encode}
 use Rattle.bson_model.specs.View.{content, view}
 use Rattle.store_model.specs.Reading.{Documents}
 use Rattle.store_model.specs.Refusal.{refusal, refusal_at}
-use Rattle.store_model.specs.State.{id_key, IsName, When}
+use Rattle.store_model.specs.State.{AreKept, id_key, IsName, When}
 use Rattle.store_model.specs.Table.{DocumentTable, documents_of}
 use Rattle.store_model.specs.declared.error.ErrorKind.{ErrorKind}
 use Rattle.store_model.specs.declared.error.ErrorKind.TheVariants.{BadName, Memory}
@@ -20,6 +21,7 @@ use Rattle.store_update.specs.Update.{updated}
 use Rattle.store_update.specs.declared.error.UpdateError.{UpdateError}
 use Rattle.store_update.specs.declared.error.UpdateError.TheVariants as update_error
 use Rattle.store_update_read.specs.Outcome.{plans_of}
+use Rattle.bson_store.specs.Export.{bytes_of_each}
 use Rattle.bson_store.specs.Refusals.{IsDenied}
 use Rattle.bson_store.specs.Shown.{Represents}
 use Rattle.bson_store.specs.Whole.{DoesAll}
@@ -123,6 +125,10 @@ Changes n w ds (Ok a) docs after = (xs : List Edit) × AreEdits n w ds xs × (a 
 Changes n w ds (Err e) docs after =
     (StopsAt n w ds (unmade.Store e) × (after ≡ docs))
     ⊎ ((xs : List Edit) × (r : ListRefusal) × AreEdits n w ds xs × (e ≡ r.error) × DoesAll xs (Err r) docs after)
+
+-- the same of whatever documents have these bodies
+abbrev pub ChangesBodies : List ℕ → Work → List (Vec ℕ Global) → Result Answer StoreError → List TableRow → List TableRow → Type 0
+ChangesBodies n w bodies o docs after = (ds : Documents) → AreKept ds → bytes_of_each bodies ≡ map encode ds → Changes n w ds o docs after
 
 -- ---- those that answer a question
 

@@ -62,6 +62,10 @@ ChangesOne n w k d (Err x) docs after =
     (IsUnmadeAt k d 0 (unmade.Store x) × (after ≡ docs))
     ⊎ ((change : Option Edit) × (r : ListRefusal) × Becomes n k d change × (x ≡ r.error) × DoesAll (listed change) (Err r) docs after)
 
+-- the same of whatever document has this body
+abbrev pub ChangesBody : List ℕ → Wanted → Work → List ℕ → Result Answer StoreError → List TableRow → List TableRow → Type 0
+ChangesBody n w k body o docs after = (d : Members) → IsKept d → body ≡ encode d → ChangesOne n w k d o docs after
+
 -- of a list of one; of none nothing is changed or returned
 abbrev pub ChangesFirst : List ℕ → Wanted → Work → Documents → Result Answer StoreError → List TableRow → List TableRow → Type 0
 ChangesFirst n w k [] o docs after = (o ≡ Ok (answer.Found None)) × (after ≡ docs)

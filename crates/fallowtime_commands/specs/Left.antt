@@ -1,5 +1,5 @@
 -- Which databases a crash may leave after a request.
-use Rattle.std.specs.Prelude.{◌⊎◌, List, [], ◌∷◌, ℕ, Bool, Option, Some, Result, Ok, Err}
+use Rattle.std.specs.Prelude.{◌⊎◌, List, [], ◌∷◌, ℕ, Bool, true, false, Option, Some, None, Result, Ok, Err}
 use Rattle.sqlite.specs.Effect.{Database}
 use Rattle.sqlite.specs.State.{State, Survives}
 use Rattle.sqlite_trees.specs.Tree.{Trees}
@@ -16,6 +16,7 @@ use Rattle.store_update_read.specs.Outcome.{plans_of}
 use Rattle.store_question.specs.Asked.{Asked}
 use Rattle.store_question.specs.Reads.{Form, Reads, form_of}
 use Rattle.store_model.specs.declared.error.StoreError.{StoreError}
+use Rattle.bson_store.specs.Drafting.{HasReplaced}
 use Rattle.bson_store.specs.Left.{Along, Holds}
 use Rattle.bson_store.specs.Whole.{HoldsDone, LeavesWhole}
 use Rattle.bson_store.specs.declared.edit.Edit.{Edit}
@@ -23,10 +24,13 @@ use Rattle.bson_store.specs.declared.edit.ListRefusal.{ListRefusal}
 use Rattle.fallowtime_commands.specs.Changing.{AreEdits, AreMeant, Becomes, Renews, Updates, listed}
 use Rattle.fallowtime_commands.specs.Finding.{IsFirstFound}
 use Rattle.fallowtime_commands.specs.declared.answer.Answer.{Answer}
+use Rattle.fallowtime_commands.specs.Importing.{EnterAll}
 use Rattle.fallowtime_commands.specs.Setting.{Gets}
 use Rattle.fallowtime_commands.specs.Transferring.{IsReady, transferred}
 use Rattle.fallowtime_requests.specs.declared.request.Transfer.{Transfer}
-use Rattle.fallowtime_commands.specs.Storing.{FindsNone, HasReplaced, IsStopped}
+use Rattle.fallowtime_commands.specs.Storing.{FindsNone, IsStopped}
+use Rattle.fallowtime_requests.specs.declared.request.Existing.{Existing}
+use Rattle.fallowtime_requests.specs.declared.request.Existing.TheVariants as existing
 use Rattle.fallowtime_requests.specs.declared.request.Request.{Request}
 use Rattle.fallowtime_requests.specs.declared.request.Wanted.{Wanted}
 use Rattle.fallowtime_requests.specs.declared.request.Otherwise.{Otherwise}
@@ -102,6 +106,17 @@ module _ (Same : Type 0) (Of : Ways → Type 0) (n : List ℕ) (r : model.Reply)
   abbrev pub OfTransfer : Transfer → Type 0
   OfTransfer how = Of (λ From Done Has Was a. (IsRefusal r × Was) ⊎ (IsReady how n (state_of a) × Has (transferred how n (state_of a))))
 
+  -- an import that replaces or leaves documents out: no more than before, after a refusal; or the state in which all documents of the
+  -- stream entered
+  abbrev pub OfEntered : Bool → List ℕ → Type 0
+  OfEntered stays bytes = Of (λ From Done Has Was a.
+      (IsRefusal r × Was) ⊎ ((ds : Documents) × (t : model.State) × ReadsStream bytes ds None × EnterAll stays n ds (state_of a) t × Has t))
+
+  abbrev pub OfImport : Existing → List ℕ → Type 0
+  OfImport existing.Refuse bytes = (ds : Documents) (stop : Option ErrorKind) → ReadsStream bytes ds stop → OfCall (model.import ds stop)
+  OfImport existing.Replace bytes = OfEntered false bytes
+  OfImport existing.Skip bytes = OfEntered true bytes
+
   -- a question or an index leaves no more than before
   abbrev pub OfRequest : Request → Type 0
   OfRequest (request.Insert id d) = OfStored (model.insert model.in_bytes) (content d)
@@ -114,7 +129,7 @@ module _ (Same : Type 0) (Of : Ways → Type 0) (n : List ℕ) (r : model.Reply)
   OfRequest (request.FindAndChange q w k) = OfFound (form_of q) w k
   OfRequest (request.Upsert q w many u) = OfUpsert (form_of q) w many u
   OfRequest (request.Remove id) = OfCall (model.remove (view id))
-  OfRequest (request.Import stream) = (ds : Documents) (stop : Option ErrorKind) → ReadsStream stream.items ds stop → OfCall (model.import ds stop)
+  OfRequest (request.Import stream e) = OfImport e stream.items
   OfRequest (request.Transfer how) = OfTransfer how
   OfRequest _ = Same
 
@@ -154,6 +169,12 @@ LeavesFound n form w k r old new = OfFound (Unmoved old new) (LeavesIn old new n
 
 abbrev pub LeavesTransfer : List ℕ → Transfer → model.Reply → State → State → Type 0
 LeavesTransfer n how r old new = OfTransfer (Unmoved old new) (LeavesIn old new n r) n r how
+
+abbrev pub LeavesOver : Bool → List ℕ → List ℕ → model.Reply → State → State → Type 0
+LeavesOver stays n bytes r old new = OfEntered (Unmoved old new) (LeavesIn old new n r) n r stays bytes
+
+abbrev pub LeavesImport : Existing → List ℕ → List ℕ → model.Reply → State → State → Type 0
+LeavesImport e n bytes r old new = OfImport (Unmoved old new) (LeavesIn old new n r) n r e bytes
 
 -- if no document answers: what an insertion leaves, or no more than before, after a refusal
 abbrev pub LeavesEnd : List ℕ → Otherwise → model.Reply → State → State → Type 0

@@ -3,6 +3,7 @@ pub mod Asking
 pub mod Changing
 pub mod Executing
 pub mod Finding
+pub mod Importing
 pub mod Left
 pub mod Performing
 pub mod Printing

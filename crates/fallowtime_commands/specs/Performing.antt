@@ -5,7 +5,6 @@ use Rattle.bson_model.specs.View.{content, view}
 use Rattle.bson_model.specs.declared.bson.Bson.{Bson}
 use Rattle.store_table.specs.Rows.{TableRow}
 use Rattle.store_filter.specs.Filters.{path_of}
-use Rattle.store_model.specs.Reading.{ReadsStream}
 use Rattle.store_model.specs.State as model
 use Rattle.store_model.specs.State.{IsName}
 use Rattle.store_model.specs.declared.error.ErrorKind.{ErrorKind}
@@ -15,7 +14,6 @@ use Rattle.store_question.specs.Reads.{form_of}
 use Rattle.store_update_read.specs.Outcome.{plans_of}
 use Rattle.bson_store.specs.Calls.{Does, HasIndex}
 use Rattle.bson_store.specs.Export.{bytes_of_each}
-use Rattle.bson_store.specs.Many.{DoesMany}
 use Rattle.bson_store.specs.Questions.{Indexed}
 use Rattle.bson_store.specs.Refusals.{as_done, reply_by}
 use Rattle.bson_store.specs.declared.store.Store.{Store}
@@ -24,6 +22,7 @@ use Rattle.fallowtime_commands.specs.declared.answer.Answer.TheVariants as answe
 use Rattle.fallowtime_commands.specs.Altering.{Alters, IsAltered}
 use Rattle.fallowtime_commands.specs.Asking.{Counts, CountsAll, Differs, Finds}
 use Rattle.fallowtime_commands.specs.Finding.{FindsAndChanges, IsFound}
+use Rattle.fallowtime_commands.specs.Importing.{Imports}
 use Rattle.fallowtime_commands.specs.Setting.{Sets}
 use Rattle.fallowtime_commands.specs.Storing.{Puts, Stores}
 use Rattle.fallowtime_commands.specs.Changing.{ChangesFound}
@@ -116,9 +115,9 @@ IsAnswerTo (request.Upsert q w many u) a = IsUpsert w u a
 IsAnswerTo (request.Remove id) a = a ≡ answer.Nothing
 IsAnswerTo (request.Find q wanted) a = AreDocuments a
 IsAnswerTo (request.FindAndChange q w k) a = IsFound k a
-IsAnswerTo (request.Count q) a = IsNumber a
+IsAnswerTo (request.Count q p) a = IsNumber a
 IsAnswerTo (request.Distinct path q counts) a = AreValues counts a
-IsAnswerTo (request.Import stream) a = IsNumber a
+IsAnswerTo (request.Import stream e) a = IsNumber a
 IsAnswerTo (request.Transfer how) a = IsNumber a
 IsAnswerTo (request.Index path) a = a ≡ answer.Nothing
 IsAnswerTo (request.DropIndex path) a = a ≡ answer.Nothing
@@ -161,9 +160,9 @@ Performs n (request.Upsert q w many u) o old new = UpsertsFound n (form_of q) w 
 Performs n (request.Remove id) o old new = Does (model.on n (model.remove (view id))) (reply_of o) old new
 Performs n (request.Find q w) o old new = Finds n (form_of q) w (reply_of o) old new
 Performs n (request.FindAndChange q w k) o old new = FindsAndChanges n (form_of q) w k o old new
-Performs n (request.Count q) o old new = Counts n (form_of q) (reply_of o) old new
+Performs n (request.Count q p) o old new = Counts n (form_of q) p (reply_of o) old new
 Performs n (request.Distinct path q counts) o old new = Differs n (form_of q) (path_of path.items) counts o old new
-Performs n (request.Import stream) o old new = DoesMany n (ReadsStream stream.items) (reply_of o) old new
+Performs n (request.Import stream e) o old new = Imports e n stream.items o (reply_of o) old new
 Performs n (request.Transfer how) o old new = Transfers n how o old new
 Performs n (request.Index path) o old new = Indexes n (reply_of o) old new
 Performs n (request.DropIndex path) o old new = Indexes n (reply_of o) old new

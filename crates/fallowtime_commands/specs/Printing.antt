@@ -12,7 +12,7 @@ use Rattle.bson_model.specs.declared.extjson.ser.Mode.TheVariants.{Relaxed}
 use Rattle.bson_store.specs.Export.{bytes_of_each}
 use Rattle.cli_convert.specs.Parts.{InParts, Passed}
 use Rattle.cli_words.specs.Lines.{line}
-use Rattle.shown_text.specs.Shown.{shown}
+use Rattle.cli_convert.specs.Shown.{shown}
 use Rattle.store_distinct.specs.declared.counted.Counted.{Counted}
 use Rattle.store_model.specs.Refusal.{refusal, refusal_at}
 use Rattle.store_model.specs.State.{IsKept}

@@ -12,6 +12,7 @@ use Rattle.store_model.specs.Table.{DocumentTable, Serves}
 use Rattle.store_model.specs.declared.error.ErrorKind.{ErrorKind}
 use Rattle.store_model.specs.declared.error.ErrorKind.TheVariants.{BadName, Memory, NoId, NotFound, Nul, TooDeep, TooLong}
 use Rattle.bson_store.specs.Calls.{DoesBytes}
+use Rattle.bson_store.specs.Drafting.{HasReplaced}
 use Rattle.bson_store.specs.Shown.{Represents}
 
 -- ---- before the store is asked
@@ -42,11 +43,6 @@ abbrev pub Stores : List ℕ → (Reading → Call) → Members → Reply → Li
 Stores n call e r old new = (IsStopped n e r × (new ≡ old)) ⊎ (IsFit e × DoesBytes n call (encode e) r old new)
 
 -- ---- a replacement, or an insertion if there is nothing to replace
-
--- there was a document to replace
-abbrev pub HasReplaced : Reply → Type 0
-HasReplaced (refused NotFound i) = ⊥
-HasReplaced _ = Unit {0}
 
 -- a replacement by what the bytes read as finds no document
 abbrev pub FindsNone : List ℕ → List ℕ → DocumentTable → DocumentTable → Type 0

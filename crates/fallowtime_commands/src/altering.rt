@@ -21,7 +21,12 @@ use std::alloc::Global;
 use store_update::Step;
 
 /// The change that is to be made of the document of a body, as a list; an empty one if it stays as it is.
-fn alteration(alloc: Global, name: &str, body: &[u8], steps: &[Step]) -> Result<Vec<Edit>, Unmade>
+pub fn alteration(
+    alloc: Global,
+    name: &str,
+    body: &[u8],
+    steps: &[Step],
+) -> Result<Vec<Edit>, Unmade>
     ensures { (d : Members) → IsKept d → body.now ≡ encode d → MatchResult result
         (λ edits. IsAlteration name.now (map plan_of steps.now) d edits.items)
         (IsUnrenewedAt (Updates (map plan_of steps.now) d) 0) }
@@ -33,7 +38,7 @@ fn alteration(alloc: Global, name: &str, body: &[u8], steps: &[Step]) -> Result<
 }
 
 /// What is returned after these changes: if `told`, whether there was one.
-fn altered(told: bool, edits: &[Edit]) -> Answer
+pub fn altered(told: bool, edits: &[Edit]) -> Answer
     ensures { result ≡ altered_by told edits.now }
 {
     if !told {

@@ -79,7 +79,7 @@ pub fn flag(outcome: Result<bool, StoreError>) -> Result<Answer, StoreError>
 }
 
 /// How many there are.
-pub(crate) fn number(outcome: Result<u64, StoreError>) -> Result<Answer, StoreError>
+pub fn number(outcome: Result<u64, StoreError>) -> Result<Answer, StoreError>
     ensures reply { reply_of result ≡ reply_by as_number outcome }
     ensures shape { IfOk result IsNumber }
 {
@@ -87,7 +87,7 @@ pub(crate) fn number(outcome: Result<u64, StoreError>) -> Result<Answer, StoreEr
 }
 
 /// A document as it is written.
-pub(crate) fn document(outcome: Result<Vec<u8>, StoreError>) -> Result<Answer, StoreError>
+pub fn document(outcome: Result<Vec<u8>, StoreError>) -> Result<Answer, StoreError>
     ensures reply { reply_of result ≡ reply_by as_bytes outcome }
     ensures shape { IfOk result IsDocument }
 {
@@ -95,7 +95,7 @@ pub(crate) fn document(outcome: Result<Vec<u8>, StoreError>) -> Result<Answer, S
 }
 
 /// Documents as they are written.
-pub(crate) fn documents(outcome: Result<Vec<Vec<u8>>, StoreError>) -> Result<Answer, StoreError>
+pub fn documents(outcome: Result<Vec<Vec<u8>>, StoreError>) -> Result<Answer, StoreError>
     ensures reply { reply_of result ≡ reply_by as_list outcome }
     ensures shape { IfOk result AreDocuments }
 {
@@ -111,10 +111,7 @@ pub(crate) fn names(outcome: Result<Vec<String>, StoreError>) -> Result<Answer, 
 }
 
 /// Different values, and whether they are counted.
-pub(crate) fn values(
-    outcome: Result<Vec<Counted>, StoreError>,
-    counts: bool,
-) -> Result<Answer, StoreError>
+pub fn values(outcome: Result<Vec<Counted>, StoreError>, counts: bool) -> Result<Answer, StoreError>
     ensures reply { result ≡ values_by counts outcome }
     ensures shape { IfOk result (AreValues counts) }
 {

@@ -34,7 +34,7 @@ use store_update::{Step, UpdateError, updated};
 
 /// Why nothing becomes of a document.
 #[derive(Drop)]
-pub(crate) enum Unmade {
+pub enum Unmade {
     /// It is refused for the document at this place among those that are meant, counted from 0.
     Update(u64, UpdateError),
     /// What becomes of a document can't be kept, or memory ran out.
@@ -148,7 +148,7 @@ fn removal(alloc: Global, name: &str, id: Bson) -> Result<Edit, AllocError>
 }
 
 /// The change that takes away the document of a body.
-fn removal_of_body(alloc: Global, name: &str, body: &[u8]) -> Result<Edit, StoreError>
+pub(crate) fn removal_of_body(alloc: Global, name: &str, body: &[u8]) -> Result<Edit, StoreError>
     ensures { (d : Members) → IsKept d → body.now ≡ encode d
         → MatchResult result (IsRemoval name.now d) (λ e. e ≡ refusal Memory) }
 {
@@ -255,7 +255,7 @@ pub(crate) fn push(edit: Option<Edit>, edits: &mut Vec<Edit>) -> Result<(), Unma
 }
 
 /// The changes that are to be made of the documents of these bodies, in their order.
-pub(crate) fn edits_of(
+pub fn edits_of(
     alloc: Global,
     name: &str,
     bodies: &[Vec<u8>],
@@ -285,7 +285,7 @@ pub(crate) fn outcome_of(unmade: Unmade) -> Result<Answer, StoreError>
 }
 
 /// What is returned if so many documents are meant and so many of them changed.
-fn answer_to(work: &Work, matched: u64, changed: u64) -> Answer
+pub fn answer_to(work: &Work, matched: u64, changed: u64) -> Answer
     ensures { result ≡ done_by work.now matched changed }
 {
     match work {

@@ -6,7 +6,7 @@ ghost use Rattle.store_filter.specs.Filters.{path_of};
 ghost use Rattle.store_question.specs.Reads.{form_of};
 ghost use Rattle.bson_store.specs.Calls.{KeepsIndexes, Relates, store_state};
 ghost use Rattle.store_asked.specs.Asking.{AskedFrom};
-ghost use Rattle.store_lookup.specs.Reads.{Reads, Stays};
+ghost use Rattle.store_asked.specs.Reads.{Reads, Stays};
 ghost use Rattle.fallowtime_commands.specs.Asking.{AreCounted};
 
 use bson_raw::RawDocument;
@@ -14,15 +14,14 @@ use bson_store::{Store, StoreError, Take};
 use sqlite::Alter;
 use sqlite_pages::Pages;
 use std::alloc::Global;
-use store_asked::{look_up_answers, take_answers};
+use store_asked::{Choose, ReadOnlyStore, SelectedRows, look_up_answers, take_answers};
 use store_distinct::{Counted, Distinct};
-use store_lookup::{Choose, ReadOnlyStore, SelectedRows};
 use store_question::Question;
 
 /// Counts the different values of the documents that it takes.
 #[derive(Drop)]
-struct Differing<'a> {
-    values: Distinct<'a>,
+pub struct Differing<'a> {
+    pub values: Distinct<'a>,
 }
 
 impl<'a> Take for Differing<'a> {

@@ -73,7 +73,7 @@ fn find_first<S: Alter + Drop>(
 }
 
 /// The first of bodies, if there is one.
-fn head_of(bodies: &[Vec<u8>]) -> Option<&[u8]>
+pub fn head_of(bodies: &[Vec<u8>]) -> Option<&[u8]>
     ensures { MatchOption result (bytes_of_each bodies.now ≡ [])
         (λ body. (rest : List (List ℕ)) × (bytes_of_each bodies.now ≡ body.now ∷ rest)) }
 {
@@ -143,15 +143,16 @@ fn answer_of(
 /// A change that is to be made, and what is then returned. It is made before the change, which leaves nothing to do
 /// that memory could be refused for.
 #[derive(Drop)]
-struct Drafted {
+pub struct Drafted {
     /// The change of the document, if one is to be made.
-    edits: Vec<Edit>,
+    pub edits: Vec<Edit>,
     /// What is returned of the document.
-    returned: Vec<u8>,
+    pub returned: Vec<u8>,
 }
 
-/// The change that is to be made of the document of a body, and what is returned of it.
-fn draft(
+/// The change that is to be made of the document of a body, and what is returned of it: what is left of it by the fields,
+/// as it is after the change, if so, or else as it was before.
+pub fn draft(
     alloc: Global,
     name: &str,
     body: &[u8],

@@ -71,7 +71,7 @@ pub(crate) fn id_of_refusal(
         return None;
     }
     match request {
-        Request::Import(stream) => id_of_body(
+        Request::Import(stream, _) => id_of_body(
             alloc,
             document_at(stream.as_slice(), error.document?)?,
         ),

@@ -6,7 +6,7 @@ ghost use Rattle.sqlite_wal.specs.Files.{seen_image};
 ghost use Rattle.store_pages.specs.Snapshot.{is_clean_of};
 ghost use Rattle.store_model.specs.State.{bytes, export, on};
 ghost use Rattle.bson_store.specs.Calls.{Does};
-ghost use Rattle.store_lookup.specs.Reads.{OfFiles, Reads, Stays};
+ghost use Rattle.store_asked.specs.Reads.{OfFiles, Reads, Stays};
 ghost use Rattle.fallowtime_commands.specs.Performing.{IsAnswerTo, Performs};
 ghost use Rattle.fallowtime_commands.specs.Printing.{IsRead, Tells};
 ghost use Rattle.fallowtime_requests.specs.declared.request.Request.TheVariants.{Check};
@@ -24,7 +24,7 @@ use fallowtime_requests::Request;
 use sqlite_disk::{Disk, Files};
 use sqlite_pages::Pages;
 use std::alloc::Global;
-use store_lookup::{ReadOnlyStore, open_files};
+use store_asked::{ReadOnlyStore, open_files};
 use store_pages::Snapshot;
 
 /// Whether a refusal is one for want of memory, or by what the pages hold.
@@ -62,7 +62,9 @@ fn ask<P: Pages + Drop>(
         Request::Find(question, wanted) => {
             told(documents(look_up_wanted(alloc, store, name, question, wanted)))
         }
-        Request::Count(question) => told(number(count_in_pages(alloc, store, name, question))),
+        Request::Count(question, part) => {
+            told(number(count_in_pages(alloc, store, name, question, part)))
+        }
         Request::Collections => told(names(store.collections())),
         Request::Distinct(path, question, counts) => {
             let outcome = distinct_in_pages(alloc, store, name, question, path.as_slice());

@@ -25,9 +25,9 @@ fn is_enough(many: bool, bodies: &[Vec<u8>]) -> bool
 
 /// Keeps the written forms of all documents that come, or of the first alone.
 #[derive(Drop)]
-struct Meant {
-    copies: Copies,
-    many: bool,
+pub struct Meant {
+    pub copies: Copies,
+    pub many: bool,
 }
 
 impl Take for Meant {

@@ -8,10 +8,11 @@ ghost use Rattle.fallowtime_commands.specs.Performing.{Drops, IsAnswerTo, Perfor
 
 use crate::altering::alter;
 use crate::answer::{Answer, document, documents, flag, inserted, names, nothing, number, values};
-use crate::asking::count;
+use crate::asking::count_part;
 use crate::changing::change;
 use crate::differing::distinct;
 use crate::finding::find_and_change;
+use crate::importing::import;
 use crate::setting::set;
 use crate::storing::{insert, put, replace};
 use crate::total::total;
@@ -30,7 +31,7 @@ use std::mem::replace as take;
 /// Refused as that call is: for `Insert` and `Replace`, in this order, by BadName; TooDeep, Nul, NoId and TooLong; and
 /// then by DuplicateId and Places, or by NotFound; `Put` by neither DuplicateId nor NotFound; `Set` as `set`, whose
 /// value keeps the order of its keys; `Alter` as `alter`, `Change` as `change`, `Upsert` as `upsert`, and `FindAndChange` as
-/// `find_and_change`; `Import` as `import_bytes`; `Transfer` as `transfer`; `Index` and
+/// `find_and_change`; `Import` as `import`; `Transfer` as `transfer`; `Index` and
 /// `DropIndex` as `index` and `drop_index`.
 pub fn perform<S: Alter + Drop>(
     alloc: Global,
@@ -72,8 +73,10 @@ pub fn perform<S: Alter + Drop>(
         Request::FindAndChange(question, wanted, work) => {
             find_and_change(alloc, store, name, question, wanted, work)
         }
-        Request::Count(question) => number(count(alloc, store, name, question)),
-        Request::Import(stream) => number(store.import_bytes(name, stream.as_slice())),
+        Request::Count(question, part) => { number(count_part(alloc, store, name, question, part)) }
+        Request::Import(stream, existing) => {
+            import(alloc, store, name, stream.as_slice(), *existing)
+        }
         Request::Transfer(how) => transfer(alloc, store, name, *how),
         Request::Index(path) => {
             let path = take(path, Vec::new(alloc));

@@ -6,8 +6,8 @@ ghost use Rattle.store_model.specs.declared.error.ErrorKind.TheVariants.{Memory}
 ghost use Rattle.fallowtime_commands.specs.Reports.{key_text, named_text, place_text, refusal_text, update_name};
 
 use bson_store::{ErrorKind, StoreError};
+use cli_convert::shown;
 use itoa::Buffer;
-use shown_text::shown;
 use std::alloc::{AllocError, Global};
 use store_update::UpdateError;
 

@@ -47,7 +47,7 @@ pub fn kept_bytes(alloc: Global, document: &Document) -> Result<Vec<u8>, ErrorKi
 }
 
 /// The bytes of a document that is to go into the collection `name`.
-fn written(alloc: Global, name: &str, document: &Document) -> Result<Vec<u8>, ErrorKind>
+pub fn written(alloc: Global, name: &str, document: &Document) -> Result<Vec<u8>, ErrorKind>
     ensures { MatchResult result (λ bytes. (bytes.items ≡ encode (content document.now))
         × IsFit (content document.now)) (IsUnasked name.now (content document.now)) }
 {

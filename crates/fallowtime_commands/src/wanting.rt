@@ -4,7 +4,7 @@ ghost use Rattle.std.specs.Prelude.{IfOk, map};
 ghost use Rattle.bson_store.specs.Calls.{KeepsIndexes, Relates, store_state};
 ghost use Rattle.store_asked.specs.Asking.{AskedFrom};
 ghost use Rattle.store_fields.specs.Views.{left_of};
-ghost use Rattle.store_lookup.specs.Reads.{Reads, Stays};
+ghost use Rattle.store_asked.specs.Reads.{Reads, Stays};
 ghost use Rattle.store_model.specs.Reading.{Documents};
 ghost use Rattle.store_question.specs.Reads.{form_of};
 ghost use Rattle.store_sorted.specs.Bodies.{AreBodies, IsBody, OfBody};
@@ -19,9 +19,8 @@ use fallowtime_requests::Wanted;
 use sqlite::Alter;
 use sqlite_pages::Pages;
 use std::alloc::{AllocError, Global};
-use store_asked::{find_arranged, look_up_arranged};
+use store_asked::{ReadOnlyStore, find_arranged, look_up_arranged};
 use store_fields::{Fields, project};
-use store_lookup::ReadOnlyStore;
 use store_question::Question;
 
 /// The body of what is left of the document that has this body.
@@ -55,7 +54,7 @@ fn left_of_each(
 }
 
 /// The bodies of what is wanted of each document: of the fields that are given, or of all.
-fn left_by(
+pub fn left_by(
     alloc: Global,
     bodies: Vec<Vec<u8>>,
     fields: &Option<Fields>,

@@ -30,12 +30,13 @@ arguments_text (a ∷ more) = argument_text a ++ arguments_text more
 
 abbrev pub options_text : Allowed → List ℕ
 options_text o =
-    if o.lines then codes " [--json]"
+    if o.lines then codes " [--json] [--upsert] [--skip-existing]"
     else if o.many && o.upsert then codes " [--many] [--upsert]"
     else if o.many then codes " [--many]"
     else if o.upsert then codes " [--upsert]"
     else if o.literal then codes " [--key]"
-    else if o.arranged || o.counts then codes " [--OPTION ..]"
+    else if o.drops then codes " [--drop]"
+    else if o.arranged || o.part || o.counts then codes " [--OPTION ..]"
     else if o.canonical && o.bytes then codes " [--canonical | --bson]"
     else if o.canonical then codes " [--canonical]"
     else codes ""

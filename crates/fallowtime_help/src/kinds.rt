@@ -378,8 +378,9 @@ const NO_ID: &str =
 
 const DUPLICATE_ID: &str =
     "  `DuplicateId`: the collection has a document with this `_id`, or the input of `import` has two, and then none went in.
-  `put` puts a document in the place of the one that is there. The kinds of numbers are different `_id`s, see
-  USING.md. Of `rename` and `copy`: NEW has a document already; `drop` removes it.
+  `put` and `import --upsert` put a document in the place of the one that is there, and `import --skip-existing` leaves
+  it out. The kinds of numbers are different `_id`s, see USING.md. Of `rename` and `copy`:
+  NEW has a document already; `drop` removes it, and so does `rename --drop`.
 ";
 
 const NOT_FOUND: &str =
@@ -513,9 +514,9 @@ const QUERY: &str =
 
 const UPDATE: &str =
     "  `words: update`: UPDATE is no update of the language, for the reason that follows: it is no JSON from a byte on, or no
-  object, a key comes twice, there is no operator of that name (`$currentDate` isn't taken here, as no date is at hand:
-  `$set` one), an operator has no object of paths, or an operator isn't made at a path. Or the PATH of `set` or `unset`
-  isn't one of `$set` or `$unset`: with `--key` it is one key, with its dots.
+  object, a key comes twice, there is no operator of that name, an operator has no object of paths, or an operator isn't
+  made at a path. Or the PATH of `set` or `unset` isn't one of `$set` or `$unset`: with `--key` it is one key, with its
+  dots.
 ";
 
 const THROUGH: &str =

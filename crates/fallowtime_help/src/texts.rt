@@ -35,11 +35,16 @@ Options come last, in any order:
   --json           reads lines of Extended JSON, a document each (import)
   --many           all selected documents, and not only the first (update,
                    delete)
-  --upsert         puts a document in if none is selected (update, replace-one)
+  --upsert         puts a document in if none is selected (update, replace-one);
+                   or in the place of the one with its _id (import)
+  --skip-existing  leaves documents out whose _id is there (import)
+  --batch N        in steps of N lines of JSON (import)
   --count          how many documents have each value (distinct)
   --key            takes PATH as one key, also with dots (set, unset)
-  --sort KEYS, --skip N, --limit N
-                   an order of documents, and a part of them (find, find-and-..)
+  --drop           removes what NEW has (rename)
+  --sort KEYS      an order of documents (find, find-and-..)
+  --skip N, --limit N
+                   a part of them (find, find-and-.., count)
   --fields PATHS, --without PATHS
                    which fields of documents there are (find, find-and-..)
   --after          the document as it is after the change (find-and-update,
@@ -166,8 +171,8 @@ Updates the first document of the collection COLL that QUERY selects, or with
 --many all of them, in one step: all or, if one of them can't be updated, none.
 Prints how many were selected, and how many of these are other ones now:
 {\"matched\":3,\"changed\":2}. QUERY is that of find, {} for every document; UPDATE
-is in MongoDB's language: $set, $unset, $inc, $mul, $min, $max, $push,
-$addToSet, $pull, $pullAll, $pop and $rename at paths.
+is in MongoDB's language: $set, $unset, $inc, $mul, $min, $max, $currentDate,
+$push, $addToSet, $pull, $pullAll, $pop and $rename at paths.
 
 With --upsert, if none is selected, a document is put in: the equality fields of
 QUERY, {\"a.b\":1} and {\"a\":{\"$eq\":1}}, also within $and, with UPDATE made on
@@ -351,10 +356,16 @@ const COUNT: &str = "
 Prints how many documents of the collection COLL the QUERY selects, or how many
 there are. QUERY is that of find.
 
+  --skip N         leaves the first N out
+  --limit N        prints N if there are more
   --wait SECONDS   waits so long if another process has FILE; else 5
 
     fallowtime shop.db count orders
     fallowtime shop.db count orders '{\"$or\":[{\"price\":0},{\"gift\":true}]}'
+
+A line of a session has the options as an object behind QUERY:
+
+    [\"count\",\"orders\",{\"gift\":true},{\"skip\":10,\"limit\":100}]
 
 May be refused: NoFile, BadName; words: query.
 ";
@@ -391,10 +402,22 @@ that isn't there is made.
                    an _id gets an ObjectId; a line of no bytes is left out.
                    A file may be an array of documents, or have each over several
                    lines, too
+  --upsert         puts a document whose _id is there, in COLL or in front of it,
+                   in the place of that one
+  --skip-existing  leaves such a document out; without either the import is
+                   refused
+  --batch N        puts in N lines of JSON at a time, each batch in one step, and
+                   prints after each how many documents are in; it ends with the
+                   first that is refused, whose line is that of the batch
   --wait SECONDS   waits so long if another process has FILE; else 5
 
     fallowtime shop.db import orders orders.bson
     fallowtime shop.db import orders --json < orders.jsonl
+
+The number is that of all documents of INPUT. A line of a session has the option
+as an object behind the documents:
+
+    [\"import\",\"orders\",[{\"_id\":1},{\"_id\":2}],{\"upsert\":true}]
 
 May be refused: DuplicateId, NoId, EndInside, BadLength, NotTerminated, Faulty,
 TooDeep, TooLong, BadName, Places, Reader; words: line.
@@ -426,15 +449,21 @@ May be refused: NoFile, BadName.
 
 const RENAME: &str = "
 Gives the collection COLL the name NEW, in one step, and prints how many
-documents it has. They keep their order. NEW must not have a document yet.
+documents it has. They keep their order. NEW must not have a document yet,
+except with --drop.
 
+  --drop           removes the documents of NEW in the same step
   --wait SECONDS   waits so long if another process has FILE; else 5
 
     fallowtime shop.db rename orders orders-2024
-    fallowtime shop.db rename staged orders --wait 60
+    fallowtime shop.db rename staged orders --drop
 
-May be refused: NotFound, if COLL has no document; DuplicateId, if NEW has one;
-NoFile, BadName, Places.
+A line of a session has the option as an object behind NEW:
+
+    [\"rename\",\"staged\",\"orders\",{\"drop\":true}]
+
+May be refused: NotFound, if COLL has no document; DuplicateId, if NEW has one,
+or is COLL; NoFile, BadName, Places.
 ";
 
 const COPY: &str = "
@@ -488,6 +517,24 @@ has FILE. PATH must not be there.
     fallowtime shop.db backup \"shop-$(date +%F).db\"
 
 May be refused: Exists, NoFile.
+";
+
+const APPLY: &str = "
+Does the requests that the lines of standard input are, as one list: all of them
+in one step, or none. A request is an array of a command's name and its
+arguments, as a line over fallowtime FILE has it; a list has insert, put,
+replace, get, set, unset and remove. Prints the answer of each on a line.
+
+  --wait SECONDS   waits so long if another process has FILE; else 5
+
+    fallowtime shop.db apply < changes.jsonl
+    fallowtime shop.db apply <<'END'
+    [\"set\",\"accounts\",\"alice\",\"balance\",70]
+    [\"set\",\"accounts\",\"bob\",\"balance\",130]
+    END
+
+May be refused: as each request by itself, with the line that is refused; then
+nothing is done, and nothing printed.
 ";
 
 const INDEX: &str = "
@@ -588,6 +635,7 @@ pub(crate) fn text_of(command: Command) -> &'static str {
         Command::Collections => COLLECTIONS,
         Command::Check => CHECK,
         Command::Backup => BACKUP,
+        Command::Apply => APPLY,
         Command::Index => INDEX,
         Command::DropIndex => DROP_INDEX,
         Command::Version => ABOUT_VERSION,

@@ -41,7 +41,7 @@ fn options_of(allowed: Allowed) -> &'static str
     ensures { result.now ≡ options_text allowed }
 {
     if allowed.lines {
-        " [--json]"
+        " [--json] [--upsert] [--skip-existing]"
     } else if allowed.many && allowed.upsert {
         " [--many] [--upsert]"
     } else if allowed.many {
@@ -50,7 +50,9 @@ fn options_of(allowed: Allowed) -> &'static str
         " [--upsert]"
     } else if allowed.literal {
         " [--key]"
-    } else if allowed.arranged || allowed.counts {
+    } else if allowed.drops {
+        " [--drop]"
+    } else if allowed.arranged || allowed.part || allowed.counts {
         " [--OPTION ..]"
     } else if allowed.canonical && allowed.bytes {
         " [--canonical | --bson]"

@@ -1,7 +1,9 @@
 -- The question of a command.
 use Rattle.std.proofs.Common.{◌≡◌, ℕ, List, [], ◌∷◌, length, map, Bor, Result, Ok, Err, IfErr, inl, inr, refl, sym, subst}
+use Rattle.json.specs.Json.{Items, Json}
 use Rattle.bson_base.specs.Value.{Members}
-use Rattle.fallowtime_requests.specs.Inputs.{Given, tree, word}
+use Rattle.fallowtime_requests.specs.Arranging.{ReadsSaid}
+use Rattle.fallowtime_requests.specs.Inputs.{Given, tree, trees, word}
 use Rattle.fallowtime_requests.specs.Reading.{IsUnread, KeepsMaker, Reads, StopsDocument}
 use Rattle.fallowtime_requests.specs.Requests.{Asks, NameAndDocument}
 use Rattle.fallowtime_requests.specs.declared.reading.Layout.TheVariants.{Each}
@@ -41,6 +43,14 @@ module _ {X : Type 0} (seen : X → Given) where
   pub no_argument : (m : IdMaker) (k : Command) (r : Request) (xs : List X) (q : Question) (name : Bor (List ℕ)) → length xs ≡ 0 → Asks m m k [] name.now r Each → IsPlain q name r → Reads m m k (map seen xs) (Ok q)
   no_argument m k r [] q name none h plain = asks m m k [] q name r plain h
   no_argument m k r (x ∷ xs) q name none h plain = absurd cc
+
+-- ---- what an object of options says
+
+module _ {A : Type 0} (Says : Json → A → Type 0) (put : A → Request → Request) (m n : IdMaker) (c : Command) (js : Items) (o : Json) where
+  pub said : (q : Question) (name : Bor (List ℕ)) (r : Request) (x : A) → IsPlain q name (put x r) → Asks m n c (trees js) name.now r Each → Says o x → ReadsSaid Says put m n c js o (Ok q)
+  said q name r x (named, requested, laid) h says =
+      let of_name : Asks m n c (trees js) q.collection.now r Each = subst (λ (b : Bor (List ℕ)). Asks m n c (trees js) b.now r Each) (sym named) h in
+      (r, x, subst (λ l. Asks m n c (trees js) q.collection.now r l) (sym laid) of_name, says, requested)
 
 -- ---- out of memory once a document is read
 

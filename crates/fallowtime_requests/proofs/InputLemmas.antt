@@ -8,7 +8,7 @@ use Rattle.json.specs.declared.value.Value.{Value as Tree}
 use Rattle.fallowtime_texts.specs.declared.made.IdMaker.{IdMaker}
 use Rattle.fallowtime_words.specs.Commands.{arguments}
 use Rattle.fallowtime_words.specs.declared.command.Command.{Command}
-use Rattle.fallowtime_words.specs.declared.command.Command.TheVariants.{Insert, Put, Replace, Get, Set, Unset, Update, ReplaceOne, Delete, FindAndUpdate, FindAndReplace, FindAndDelete, Remove, Find, Count, Distinct, Import, Export, Drop, Rename, Copy, Collections, Check, Backup, Index, DropIndex, Version, ImportAll, ExportAll, Edit}
+use Rattle.fallowtime_words.specs.declared.command.Command.TheVariants.{Insert, Put, Replace, Get, Set, Unset, Update, ReplaceOne, Delete, FindAndUpdate, FindAndReplace, FindAndDelete, Remove, Find, Count, Distinct, Import, Export, Drop, Rename, Copy, Collections, Check, Backup, Apply, Index, DropIndex, Version, ImportAll, ExportAll, Edit}
 use Rattle.fallowtime_words.specs.declared.table.Argument.{Argument}
 use Rattle.fallowtime_requests.specs.Inputs.{Given, seen, texts, tree, trees, word}
 use Rattle.fallowtime_requests.specs.Reading.{AsMany, Reads, beyond}
@@ -118,6 +118,7 @@ few Copy = omega arith
 few Collections = omega arith
 few Check = omega arith
 few Backup = omega arith
+few Apply = omega arith
 few Index = omega arith
 few DropIndex = omega arith
 few Version = omega arith
@@ -133,6 +134,7 @@ not_as_many c gs more all =
 
 too_many : (m : IdMaker) (c : Command) (gs : List Given) → 4 < length gs → Reads m m c gs (Err (Words (beyond c)))
 too_many m Backup gs more = refl
+too_many m Apply gs more = refl
 too_many m Version gs more = refl
 too_many m ImportAll gs more = refl
 too_many m ExportAll gs more = refl

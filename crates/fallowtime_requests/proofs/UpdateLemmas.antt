@@ -66,7 +66,7 @@ stops_early m g h k s first = inr (tt, longer m g h k (Options ∷ []) [] s firs
 pub stops_before : (m : IdMaker) (g h k o : Given) (s : Stop) → IsFirst m but_last (g ∷ h ∷ k ∷ []) s → IsUnread m all (g ∷ h ∷ k ∷ o ∷ []) s
 stops_before m g h k o s first = inr (tt, longer m g h k (Options ∷ []) (o ∷ []) s first)
 
-pub stops_last : (m : IdMaker) (g h k o : Given) (s : Stop) (name : List ℕ) (q : Question) (plans : List Plan) → NameQueryAndUpdate (g ∷ h ∷ k ∷ []) name q plans → StopsOptions o s
+pub stops_last : (m : IdMaker) (g h k o : Given) (s : Stop) (name : List ℕ) (q : Question) (plans : List Plan) → NameQueryAndUpdate m (g ∷ h ∷ k ∷ []) name q plans → StopsOptions o s
     → IsUnread m all (g ∷ h ∷ k ∷ o ∷ []) s
 stops_last m g h k o s name q plans (named, (a, asked, stands), updates) stops = inr (tt, inr ((name, named), inr ((a, asked), inr ((plans, updates), inl stops))))
 
@@ -84,7 +84,7 @@ not_three_or_four of (x ∷ y ∷ z ∷ v ∷ w ∷ xs) three four many = many
 
 -- three of which each can be read, or the first one can't
 pub three_read : {X : Type 0} (of : X → Given) (m : IdMaker) (xs : List X) (a b c : X) (r : Result (Bor (List ℕ) × Question × Steps) Stop) → length xs ≡ 3 → get_or xs 0 a ≡ a → get_or xs 1 b ≡ b → get_or xs 2 c ≡ c
-    → MatchResult r (λ p. NameQueryAndUpdate (of a ∷ of b ∷ of c ∷ []) p.0.now p.1 (plans_of p.2)) (IsFirst m but_last (of a ∷ of b ∷ of c ∷ []))
-    → MatchResult r (λ p. NameQueryAndUpdate (map of xs) p.0.now p.1 (plans_of p.2)) (IsUnread m but_last (map of xs))
-three_read of m xs a b c (Ok p) long first second third h = of_three of (λ gs. NameQueryAndUpdate gs p.0.now p.1 (plans_of p.2)) xs a b c long first second third h
+    → MatchResult r (λ p. NameQueryAndUpdate m (of a ∷ of b ∷ of c ∷ []) p.0.now p.1 (plans_of p.2)) (IsFirst m but_last (of a ∷ of b ∷ of c ∷ []))
+    → MatchResult r (λ p. NameQueryAndUpdate m (map of xs) p.0.now p.1 (plans_of p.2)) (IsUnread m but_last (map of xs))
+three_read of m xs a b c (Ok p) long first second third h = of_three of (λ gs. NameQueryAndUpdate m gs p.0.now p.1 (plans_of p.2)) xs a b c long first second third h
 three_read of m xs a b c (Err s) long first second third h = of_three of (λ gs. IsUnread m but_last gs s) xs a b c long first second third (inr (tt, h))

@@ -1,6 +1,6 @@
 -- What `find` returns of documents, as words and as JSON say it: their order, which part of them, and which fields; and so
 -- of the one that is found and changed. What the values of a line ask for, with such options and those of changes by query.
-use Rattle.std.specs.Prelude.{◌≡◌, ◌⊎◌, ℕ, List, [], ◌∷◌, ◌++◌, codes, Bool, true, false, if◌then◌else◌, Option, Some, None, Result, Ok, Err, unwrap_or, option_map, option_and_then}
+use Rattle.std.specs.Prelude.{◌≡◌, ◌⊎◌, ℕ, List, [], ◌∷◌, ◌++◌, codes, Bool, true, false, ◌&&◌, ◌||◌, if◌then◌else◌, Option, Some, None, Result, Ok, Err, unwrap_or, option_map, option_and_then}
 use Rattle.std.specs.Borrow.{Bor}
 use Rattle.std.specs.Str.{bytes_eq}
 use Rattle.bson_base.specs.Value.{Members as Document}
@@ -21,11 +21,14 @@ use Rattle.fallowtime_requests.specs.Along.{AlongUnless, StopsUnless, literal_in
 use Rattle.fallowtime_requests.specs.Inputs.{Given, boolean_of, flag_of, tree, trees}
 use Rattle.fallowtime_requests.specs.Plain.{are_plainly, have_plain_paths}
 use Rattle.fallowtime_requests.specs.Reading.{Reads}
-use Rattle.fallowtime_requests.specs.Requests.{Asks, with_counts, with_many}
+use Rattle.fallowtime_requests.specs.Requests.{Asks, with_counts, with_drops, with_existing, with_many}
 use Rattle.fallowtime_requests.specs.Upserts.{StopsFixed, UpsertingIf, choice_of, names_upsert}
 use Rattle.fallowtime_requests.specs.declared.choosing.Choice.{Choice}
 use Rattle.fallowtime_requests.specs.declared.reading.Layout.{Layout}
 use Rattle.fallowtime_requests.specs.declared.reading.Question.{Question}
+use Rattle.fallowtime_requests.specs.declared.request.Existing.{Existing}
+use Rattle.fallowtime_requests.specs.declared.request.Existing.TheVariants as existing
+use Rattle.fallowtime_requests.specs.declared.request.Part.{Part}
 use Rattle.fallowtime_requests.specs.declared.request.Request.{Request}
 use Rattle.fallowtime_requests.specs.declared.request.Request.TheVariants as request
 use Rattle.fallowtime_requests.specs.declared.request.Wanted.{Wanted}
@@ -49,10 +52,15 @@ plan_of w = record { keys = keys_of w.arrangement.keys.items; skip = w.arrangeme
 abbrev pub whole : Plan
 whole = record { keys = []; skip = 0; limit = None; left = λ d. d; after = false }
 
--- the request, with what is wanted if it finds documents, or one that it changes
+-- which part of the documents is wanted
+abbrev pub part_of : Wanted → Part
+part_of w = record { skip = w.arrangement.skip; limit = w.arrangement.limit }
+
+-- the request, with what is wanted if it finds documents, or one that it changes, or counts them
 abbrev pub with_wanted : Wanted → Request → Request
 with_wanted w (request.Find q was) = request.Find q w
 with_wanted w (request.FindAndChange q was work) = request.FindAndChange q w work
+with_wanted w (request.Count q was) = request.Count q (part_of w)
 with_wanted w r = r
 
 -- ---- words
@@ -229,6 +237,61 @@ counts_of o = flag_of (codes "count") o
 abbrev pub AsksCounted : IdMaker → IdMaker → Items → Json → List ℕ → Request → Layout → Type 0
 AsksCounted m n js o name q l = (r : Request) × (counts : Bool) × Asks m n command.Distinct (trees js) name r l × (counts_of o ≡ Some counts) × (q ≡ with_counts counts r)
 
+-- the request that a command makes of its arguments, with what an object of options says
+abbrev pub AsksSaid : {A : Type 0} → (Json → A → Type 0) → (A → Request → Request) → IdMaker → IdMaker → Command → Items → Json → List ℕ → Request → Layout → Type 0
+AsksSaid {A} Says put m n c js o name q l = (r : Request) × (x : A) × Asks m n c (trees js) name r l × Says o x × (q ≡ put x r)
+
+-- or its arguments can't be read, or its options
+abbrev pub StopsSaid : {A : Type 0} → (Json → A → Type 0) → IdMaker → IdMaker → Command → Items → Json → Stop → Type 0
+StopsSaid {A} Says m n c js o s = Reads m n c (trees js) (Err s) ⊎ StopsOptions ((x : A) → Says o x → ⊥) s
+
+abbrev pub ReadsSaid : {A : Type 0} → (Json → A → Type 0) → (A → Request → Request) → IdMaker → IdMaker → Command → Items → Json → Result Question Stop → Type 0
+ReadsSaid Says put m n c js o (Ok q) = AsksSaid Says put m n c js o q.collection.now q.request q.layout
+ReadsSaid Says put m n c js o (Err s) = StopsSaid Says m n c js o s
+
+-- of `rename`, whether what the other collection has is removed
+abbrev pub SaysDrops : Json → Bool → Type 0
+SaysDrops o drops = flag_of (codes "drop") o ≡ Some drops
+
+-- of `import`, what is done with documents whose id is there
+abbrev pub replacing : Bool → Existing
+replacing true = existing.Replace
+replacing false = existing.Refuse
+
+abbrev pub skipping : Bool → Existing
+skipping true = existing.Skip
+skipping false = existing.Refuse
+
+abbrev pub existing_by : Option Bool → Option Bool → Option Existing
+existing_by (Some upsert) skip = Some (replacing upsert)
+existing_by None (Some skip) = Some (skipping skip)
+existing_by None None = None
+
+abbrev pub existing_of : Json → Option Existing
+existing_of o = existing_by (flag_of (codes "upsert") o) (flag_of (codes "skip-existing") o)
+
+abbrev pub SaysExisting : Json → Existing → Type 0
+SaysExisting o e = existing_of o ≡ Some e
+
+-- of `count`, which part is counted: the options are those of `find` that say it
+abbrev pub is_bound : List ℕ → Bool
+is_bound name = bytes_eq name (codes "skip") || bytes_eq name (codes "limit")
+
+abbrev pub are_bounds : Members → Bool
+are_bounds no_members = true
+are_bounds (member name j ms) = is_bound name && are_bounds ms
+
+abbrev pub has_bounds : Json → Bool
+has_bounds (json.object ms) = are_bounds ms
+has_bounds j = false
+
+abbrev pub IsPart : Json → Part → Type 0
+IsPart o p = (has_bounds o ≡ true) × ((q : Plan) × IsPlan false o q × (p.skip ≡ q.skip) × (p.limit ≡ q.limit))
+
+abbrev pub with_part : Part → Request → Request
+with_part p (request.Count q was) = request.Count q p
+with_part p r = r
+
 -- the request that a command with a key makes of its arguments, where a path may stand in the place of the key
 abbrev pub AsksKeyed : IdMaker → IdMaker → Command → Items → Option Json → List ℕ → Request → Layout → Type 0
 AsksKeyed m n c js o name q l = (was : Request) × (literal : Bool) × Asks m n c (trees js) name was l × (literal_in o ≡ Some literal) × AlongUnless literal was q
@@ -241,7 +304,7 @@ StopsKeyed m n c js o s =
     ⊎ ((name : List ℕ) × (was : Request) × (l : Layout) × (literal : Bool) × Asks m n c (trees js) name was l × (literal_in o ≡ Some literal) × StopsUnless literal was s))
 
 -- what a command with the values of a line asks for: those that find documents, and those with a key, have options behind their arguments,
--- and a change by query and `distinct` have them as a fourth one
+-- a change by query and `distinct` have them as a fourth one, and `count`, `rename` and `import` as a third one
 abbrev pub AsksLine : IdMaker → IdMaker → Command → Items → List ℕ → Request → Layout → Type 0
 AsksLine m n command.Find js name r l = AsksTwo m n command.Find js name r l
 AsksLine m n command.FindAndUpdate js name r l = AsksThree m n command.FindAndUpdate js name r l
@@ -250,6 +313,9 @@ AsksLine m n command.FindAndDelete js name r l = AsksTwo m n command.FindAndDele
 AsksLine m n command.Update js name r l = AsksByOptions true m n command.Update js name r l
 AsksLine m n command.ReplaceOne js name r l = AsksByOptions false m n command.ReplaceOne js name r l
 AsksLine m n command.Distinct (item c (item p (item q (item o no_items)))) name r l = AsksCounted m n (item c (item p (item q no_items))) o name r l
+AsksLine m n command.Count (item c (item q (item o no_items))) name r l = AsksSaid IsPart with_part m n command.Count (item c (item q no_items)) o name r l
+AsksLine m n command.Rename (item c (item w (item o no_items))) name r l = AsksSaid SaysDrops with_drops m n command.Rename (item c (item w no_items)) o name r l
+AsksLine m n command.Import (item c (item d (item o no_items))) name r l = AsksSaid SaysExisting with_existing m n command.Import (item c (item d no_items)) o name r l
 AsksLine m n command.Set (item a (item b (item k (item v (item o no_items))))) name r l = AsksKeyed m n command.Set (item a (item b (item k (item v no_items)))) (Some o) name r l
 AsksLine m n command.Set js name r l = AsksKeyed m n command.Set js None name r l
 AsksLine m n command.Unset (item a (item b (item k (item o no_items)))) name r l = AsksKeyed m n command.Unset (item a (item b (item k no_items))) (Some o) name r l
@@ -265,6 +331,9 @@ StopsLine m n command.FindAndDelete js s = StopsTwo m n command.FindAndDelete js
 StopsLine m n command.Update js s = StopsByOptions true m n command.Update js s
 StopsLine m n command.ReplaceOne js s = StopsByOptions false m n command.ReplaceOne js s
 StopsLine m n command.Distinct (item c (item p (item q (item o no_items)))) s = Reads m n command.Distinct (tree c ∷ tree p ∷ tree q ∷ []) (Err s) ⊎ StopsOptions (counts_of o ≡ None) s
+StopsLine m n command.Count (item c (item q (item o no_items))) s = StopsSaid IsPart m n command.Count (item c (item q no_items)) o s
+StopsLine m n command.Rename (item c (item w (item o no_items))) s = StopsSaid SaysDrops m n command.Rename (item c (item w no_items)) o s
+StopsLine m n command.Import (item c (item d (item o no_items))) s = StopsSaid SaysExisting m n command.Import (item c (item d no_items)) o s
 StopsLine m n command.Set (item a (item b (item k (item v (item o no_items))))) s = StopsKeyed m n command.Set (item a (item b (item k (item v no_items)))) (Some o) s
 StopsLine m n command.Set js s = StopsKeyed m n command.Set js None s
 StopsLine m n command.Unset (item a (item b (item k (item o no_items)))) s = StopsKeyed m n command.Unset (item a (item b (item k no_items))) (Some o) s

@@ -10,10 +10,12 @@ use Rattle.json.specs.Value.{value_view}
 use Rattle.bson_base.specs.Value.{Value, Members}
 use Rattle.bson_json_read.specs.Reading.{read, read_top}
 use Rattle.fallowtime_texts.specs.Ids.{id_of}
+use Rattle.fallowtime_texts.specs.Made.{date_of}
+use Rattle.fallowtime_texts.specs.declared.made.IdMaker.{IdMaker}
 use Rattle.store_question.specs.Asked.{Asked}
 use Rattle.store_question_read.specs.Query.{keys, query}
 use Rattle.store_update.specs.Plan.{Plan}
-use Rattle.fallowtime_requests.specs.Updates.{undated}
+use Rattle.store_update_read.specs.Read.{update}
 use Rattle.fallowtime_requests.specs.declared.input.Input.{Input}
 use Rattle.fallowtime_requests.specs.declared.input.Input.TheVariants as input
 
@@ -64,8 +66,9 @@ HasQuery (tree k) j = j ≡ k
 abbrev pub IsAsked : Given → Asked → Type 0
 IsAsked g a = (j : Json) × HasQuery g j × (query j ≡ Ok a)
 
-abbrev pub IsUpdate : Given → List Plan → Type 0
-IsUpdate g plans = (j : Json) × HasQuery g j × (undated j ≡ Ok plans)
+-- what is planned at the time of the maker
+abbrev pub IsUpdate : IdMaker → Given → List Plan → Type 0
+IsUpdate m g plans = (j : Json) × HasQuery g j × (update (date_of m) j ≡ Ok plans)
 
 -- options of which there is one, that is true or false: whether it is given as true; and that of an update, whether all documents are
 -- meant

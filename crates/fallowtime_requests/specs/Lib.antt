@@ -7,5 +7,4 @@ pub mod Reading
 pub mod Reports
 pub mod Requests
 pub mod Streams
-pub mod Updates
 pub mod Upserts

@@ -10,6 +10,7 @@ use Rattle.bson_json_read.specs.Reading.{read, read_top, ReadsText, ReadsValueTe
 use Rattle.bson_json_read.specs.declared.error.Error.{Error}
 use Rattle.bson_json_read.specs.declared.error.Error.TheVariants as reading
 use Rattle.fallowtime_texts.specs.Ids.{id_of}
+use Rattle.fallowtime_texts.specs.Made.{date_of}
 use Rattle.fallowtime_texts.specs.declared.made.IdMaker.{IdMaker}
 use Rattle.fallowtime_words.specs.Commands.{arguments}
 use Rattle.fallowtime_words.specs.declared.command.Command.{Command}
@@ -24,9 +25,9 @@ use Rattle.store_question_read.specs.declared.error.QueryError.{QueryError}
 use Rattle.store_question_read.specs.declared.error.QueryError.TheVariants as querying
 use Rattle.store_update.specs.Plan.{Plan}
 use Rattle.store_update_read.specs.Outcome as update_outcome
+use Rattle.store_update_read.specs.Read.{update}
 use Rattle.store_update_read.specs.declared.error.ReadError.{ReadError}
 use Rattle.store_update_read.specs.declared.error.ReadError.TheVariants as updating
-use Rattle.fallowtime_requests.specs.Updates.{IsUpdateText, undated}
 use Rattle.fallowtime_requests.specs.Inputs.{Given, word, tree, IsAsked, IsDocument, IsId, IsPath, IsText, IsUpdate, IsValue, many_of}
 use Rattle.fallowtime_requests.specs.Requests.{Asks, IsFirstUnfit}
 use Rattle.fallowtime_requests.specs.declared.reading.Question.{Question}
@@ -62,10 +63,10 @@ StopsQuery g Memory = Unit {0}
 StopsQuery (word w) (Words u) = (e : QueryError) × (u ≡ unread.Query e) × IsQuery w (Err e)
 StopsQuery (tree j) (Words u) = (e : QueryError) × (u ≡ unread.Query e) × (e ≢ querying.Memory) × query_outcome.Fails e (query j)
 
-abbrev pub StopsUpdate : Given → Stop → Type 0
-StopsUpdate g Memory = Unit {0}
-StopsUpdate (word w) (Words u) = (e : ReadError) × (u ≡ unread.Update e) × IsUpdateText w (Err e)
-StopsUpdate (tree j) (Words u) = (e : ReadError) × (u ≡ unread.Update e) × (e ≢ updating.Memory) × update_outcome.Fails e (undated j)
+abbrev pub StopsUpdate : IdMaker → Given → Stop → Type 0
+StopsUpdate m g Memory = Unit {0}
+StopsUpdate m (word w) (Words u) = (e : ReadError) × (u ≡ unread.Update e) × update_outcome.IsUpdate (date_of m) w (Err e)
+StopsUpdate m (tree j) (Words u) = (e : ReadError) × (u ≡ unread.Update e) × (e ≢ updating.Memory) × update_outcome.Fails e (update (date_of m) j)
 
 abbrev pub StopsOptions : Given → Stop → Type 0
 StopsOptions g s = (many_of g ≡ None) × (s ≡ Words unread.Options)
@@ -88,7 +89,7 @@ Stops m argument.Key g s = StopsText unread.Key g s
 Stops m argument.Value g s = StopsValue g s
 Stops m argument.Query g s = StopsQuery g s
 Stops m argument.Selection g s = StopsQuery g s
-Stops m argument.Update g s = StopsUpdate g s
+Stops m argument.Update g s = StopsUpdate m g s
 Stops m argument.Options g s = StopsOptions g s
 Stops m argument.Documents g s = StopsStream m g s
 Stops m argument.IndexPath g s = (s ≡ Memory) ⊎ StopsText unread.Path g s
@@ -97,19 +98,19 @@ Stops m argument.File g s = ⊥
 Stops m argument.Folder g s = ⊥
 
 -- it can be read
-abbrev pub IsRead : Argument → Given → Type 0
-IsRead argument.Collection g = (t : List ℕ) × IsText g t
-IsRead argument.Document g = (d : Members) × IsDocument g d
-IsRead argument.Id g = (v : Value) × IsId g v
-IsRead argument.Key g = (t : List ℕ) × IsText g t
-IsRead argument.Value g = (v : Value) × IsValue g v
-IsRead argument.Query g = (a : Asked) × IsAsked g a
-IsRead argument.Selection g = (a : Asked) × IsAsked g a
-IsRead argument.Update g = (plans : List Plan) × IsUpdate g plans
-IsRead argument.Options g = (many : Bool) × (many_of g ≡ Some many)
-IsRead argument.NewName g = (t : List ℕ) × IsText g t
-IsRead argument.IndexPath g = (path : List (List ℕ)) × IsPath g path
-IsRead _ g = ⊥
+abbrev pub IsRead : IdMaker → Argument → Given → Type 0
+IsRead m argument.Collection g = (t : List ℕ) × IsText g t
+IsRead m argument.Document g = (d : Members) × IsDocument g d
+IsRead m argument.Id g = (v : Value) × IsId g v
+IsRead m argument.Key g = (t : List ℕ) × IsText g t
+IsRead m argument.Value g = (v : Value) × IsValue g v
+IsRead m argument.Query g = (a : Asked) × IsAsked g a
+IsRead m argument.Selection g = (a : Asked) × IsAsked g a
+IsRead m argument.Update g = (plans : List Plan) × IsUpdate m g plans
+IsRead m argument.Options g = (many : Bool) × (many_of g ≡ Some many)
+IsRead m argument.NewName g = (t : List ℕ) × IsText g t
+IsRead m argument.IndexPath g = (path : List (List ℕ)) × IsPath g path
+IsRead m _ g = ⊥
 
 -- as many as the table has; a QUERY and options may be left out
 abbrev pub AsMany : List Argument → List Given → Type 0
@@ -122,7 +123,7 @@ AsMany (k ∷ ks) [] = ⊥
 
 -- those in front of it can be read, and this one can't
 abbrev pub IsFirst : IdMaker → List Argument → List Given → Stop → Type 0
-IsFirst m (k ∷ ks) (g ∷ gs) s = Stops m k g s ⊎ (IsRead k g × IsFirst m ks gs s)
+IsFirst m (k ∷ ks) (g ∷ gs) s = Stops m k g s ⊎ (IsRead m k g × IsFirst m ks gs s)
 IsFirst m _ _ s = ⊥
 
 abbrev pub IsUnread : IdMaker → List Argument → List Given → Stop → Type 0
@@ -138,6 +139,7 @@ KeepsMaker m n Memory = Unit {0}
 -- why it asks for nothing with more arguments than any has: a command that is none of a session is none with any number of them
 abbrev pub beyond : Command → Unread
 beyond command.Backup = unread.Command
+beyond command.Apply = unread.Command
 beyond command.Version = unread.Command
 beyond command.ImportAll = unread.Command
 beyond command.ExportAll = unread.Command
@@ -148,6 +150,7 @@ beyond _ = unread.Arguments
 abbrev pub Reads : IdMaker → IdMaker → Command → List Given → Result Question Stop → Type 0
 Reads m n c gs (Ok q) = Asks m n c gs q.collection.now q.request q.layout
 Reads m n command.Backup gs (Err s) = s ≡ Words unread.Command
+Reads m n command.Apply gs (Err s) = s ≡ Words unread.Command
 Reads m n command.Version gs (Err s) = s ≡ Words unread.Command
 Reads m n command.ImportAll gs (Err s) = s ≡ Words unread.Command
 Reads m n command.ExportAll gs (Err s) = s ≡ Words unread.Command

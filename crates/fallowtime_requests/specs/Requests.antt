@@ -24,8 +24,12 @@ use Rattle.store_update_read.specs.Outcome.{plans_of}
 use Rattle.fallowtime_requests.specs.Inputs.{Given, word, tree, IsAsked, IsDocument, IsId, IsPath, IsText, IsUpdate, IsValue, many_of}
 use Rattle.fallowtime_requests.specs.declared.reading.Layout.{Layout}
 use Rattle.fallowtime_requests.specs.declared.reading.Layout.TheVariants as layout
+use Rattle.fallowtime_requests.specs.declared.request.Existing.{Existing}
+use Rattle.fallowtime_requests.specs.declared.request.Existing.TheVariants as existing
+use Rattle.fallowtime_requests.specs.declared.request.Part.{Part}
 use Rattle.fallowtime_requests.specs.declared.request.Request.{Request}
 use Rattle.fallowtime_requests.specs.declared.request.Request.TheVariants as request
+use Rattle.fallowtime_requests.specs.declared.request.Transfer.{Transfer}
 use Rattle.fallowtime_requests.specs.declared.request.Transfer.TheVariants as transfer
 use Rattle.fallowtime_requests.specs.declared.request.Wanted.{Wanted}
 use Rattle.fallowtime_requests.specs.declared.request.Work.TheVariants as work
@@ -98,15 +102,15 @@ NamePathAndQuery (c ∷ p ∷ []) name path q = IsText c name × IsPath p path �
 NamePathAndQuery (c ∷ p ∷ g ∷ []) name path q = IsText c name × IsPath p path × ((a : Asked) × IsAsked g a × StandsFor q a)
 NamePathAndQuery _ name path q = ⊥
 
-abbrev pub NameQueryAndUpdate : List Given → List ℕ → Question → List Plan → Type 0
-NameQueryAndUpdate (c ∷ g ∷ u ∷ []) name q plans = IsText c name × ((a : Asked) × IsAsked g a × StandsFor q a) × IsUpdate u plans
-NameQueryAndUpdate _ name q plans = ⊥
+abbrev pub NameQueryAndUpdate : IdMaker → List Given → List ℕ → Question → List Plan → Type 0
+NameQueryAndUpdate m (c ∷ g ∷ u ∷ []) name q plans = IsText c name × ((a : Asked) × IsAsked g a × StandsFor q a) × IsUpdate m u plans
+NameQueryAndUpdate m _ name q plans = ⊥
 
 -- without options the first of the documents is meant
-abbrev pub NameQueryUpdateAndMany : List Given → List ℕ → Question → List Plan → Bool → Type 0
-NameQueryUpdateAndMany (c ∷ g ∷ u ∷ []) name q plans many = NameQueryAndUpdate (c ∷ g ∷ u ∷ []) name q plans × (many ≡ false)
-NameQueryUpdateAndMany (c ∷ g ∷ u ∷ o ∷ []) name q plans many = NameQueryAndUpdate (c ∷ g ∷ u ∷ []) name q plans × (many_of o ≡ Some many)
-NameQueryUpdateAndMany _ name q plans many = ⊥
+abbrev pub NameQueryUpdateAndMany : IdMaker → List Given → List ℕ → Question → List Plan → Bool → Type 0
+NameQueryUpdateAndMany m (c ∷ g ∷ u ∷ []) name q plans many = NameQueryAndUpdate m (c ∷ g ∷ u ∷ []) name q plans × (many ≡ false)
+NameQueryUpdateAndMany m (c ∷ g ∷ u ∷ o ∷ []) name q plans many = NameQueryAndUpdate m (c ∷ g ∷ u ∷ []) name q plans × (many_of o ≡ Some many)
+NameQueryUpdateAndMany m _ name q plans many = ⊥
 
 abbrev pub NameQueryAndMany : List Given → List ℕ → Question → Bool → Type 0
 NameQueryAndMany (c ∷ g ∷ []) name q many = IsText c name × ((a : Asked) × IsAsked g a × StandsFor q a) × (many ≡ false)
@@ -140,6 +144,9 @@ NameAndNew _ name new = ⊥
 abbrev pub WantsAll : Wanted → Type 0
 WantsAll w = (keys_of w.arrangement.keys.items ≡ []) × (w.arrangement.skip ≡ 0) × (w.arrangement.limit ≡ None) × (w.fields ≡ None) × (w.after ≡ false)
 
+abbrev pub whole_part : Part
+whole_part = record { skip = 0; limit = None }
+
 -- The request for what a command with these arguments asks, of which collection, and how documents are laid out in the
 -- answer; and the maker afterwards: documents that come without an `_id` get its next ones, and no other command takes
 -- one.
@@ -151,20 +158,20 @@ Asks m n command.Replace gs name (request.Replace d) l = NameAndDocument gs name
 Asks m n command.Get gs name (request.Get id) l = NameAndId gs name (view id) × (n ≡ m) × (l ≡ layout.Each)
 Asks m n command.Set gs name (request.Set id key value) l = NameIdKeyAndValue gs name (view id) key.now (view value) × (n ≡ m) × (l ≡ layout.Each)
 Asks m n command.Unset gs name (request.Unset id key) l = NameIdAndKey gs name (view id) key.now × (n ≡ m) × (l ≡ layout.Each)
-Asks m n command.Update gs name (request.Change q (work.Update steps) many) l = NameQueryUpdateAndMany gs name q (plans_of steps) many × (n ≡ m) × (l ≡ layout.Each)
+Asks m n command.Update gs name (request.Change q (work.Update steps) many) l = NameQueryUpdateAndMany m gs name q (plans_of steps) many × (n ≡ m) × (l ≡ layout.Each)
 Asks m n command.ReplaceOne gs name (request.Change q (work.Replace d) many) l = NameQueryAndDocument gs name q (content d) × (many ≡ false) × (n ≡ m) × (l ≡ layout.Each)
 Asks m n command.Delete gs name (request.Change q work.Remove many) l = NameQueryAndMany gs name q many × (n ≡ m) × (l ≡ layout.Each)
-Asks m n command.FindAndUpdate gs name (request.FindAndChange q w (work.Update steps)) l = NameQueryAndUpdate gs name q (plans_of steps) × WantsAll w × (n ≡ m) × (l ≡ layout.Each)
+Asks m n command.FindAndUpdate gs name (request.FindAndChange q w (work.Update steps)) l = NameQueryAndUpdate m gs name q (plans_of steps) × WantsAll w × (n ≡ m) × (l ≡ layout.Each)
 Asks m n command.FindAndReplace gs name (request.FindAndChange q w (work.Replace d)) l = NameQueryAndDocument gs name q (content d) × WantsAll w × (n ≡ m) × (l ≡ layout.Each)
 Asks m n command.FindAndDelete gs name (request.FindAndChange q w work.Remove) l = NameAndSelection gs name q × WantsAll w × (n ≡ m) × (l ≡ layout.Each)
 Asks m n command.Remove gs name (request.Remove id) l = NameAndId gs name (view id) × (n ≡ m) × (l ≡ layout.Each)
 Asks m n command.Find gs name (request.Find q w) l = NameAndQuery gs name q × WantsAll w × (n ≡ m) × (l ≡ layout.Each)
-Asks m n command.Count gs name (request.Count q) l = NameAndQuery gs name q × (n ≡ m) × (l ≡ layout.Each)
+Asks m n command.Count gs name (request.Count q p) l = NameAndQuery gs name q × (p ≡ whole_part) × (n ≡ m) × (l ≡ layout.Each)
 Asks m n command.Distinct gs name (request.Distinct path q counts) l = NamePathAndQuery gs name (path_of path.items) q × (counts ≡ false) × (n ≡ m) × (l ≡ layout.Each)
-Asks m n command.Import gs name (request.Import stream) l = NameAndStream m n gs name stream.items × (l ≡ layout.Each)
+Asks m n command.Import gs name (request.Import stream e) l = NameAndStream m n gs name stream.items × (e ≡ existing.Refuse) × (l ≡ layout.Each)
 Asks m n command.Export gs name (request.Find q w) l = NameAlone gs name × StandsFor q everything × WantsAll w × (n ≡ m) × (l ≡ layout.Stream)
 Asks m n command.Drop gs name (request.Transfer transfer.Drop) l = NameAlone gs name × (n ≡ m) × (l ≡ layout.Each)
-Asks m n command.Rename gs name (request.Transfer (transfer.Rename new)) l = NameAndNew gs name new.now × (n ≡ m) × (l ≡ layout.Each)
+Asks m n command.Rename gs name (request.Transfer (transfer.Rename new drops)) l = NameAndNew gs name new.now × (drops ≡ false) × (n ≡ m) × (l ≡ layout.Each)
 Asks m n command.Copy gs name (request.Transfer (transfer.Copy new)) l = NameAndNew gs name new.now × (n ≡ m) × (l ≡ layout.Each)
 Asks m n command.Index gs name (request.Index path) l = NameAndPath gs name (path_of path.items) × (n ≡ m) × (l ≡ layout.Each)
 Asks m n command.DropIndex gs name (request.DropIndex path) l = NameAndPath gs name (path_of path.items) × (n ≡ m) × (l ≡ layout.Each)
@@ -182,3 +189,17 @@ with_many many r = r
 abbrev pub with_counts : Bool → Request → Request
 with_counts counts (request.Distinct path q all) = request.Distinct path q (counts || all)
 with_counts counts r = r
+
+-- with the option of a command line, or that of an object, a collection may take the name of another one, which is removed
+abbrev pub dropping : Bool → Transfer → Transfer
+dropping drops (transfer.Rename new was) = transfer.Rename new drops
+dropping drops how = how
+
+abbrev pub with_drops : Bool → Request → Request
+with_drops drops (request.Transfer how) = request.Transfer (dropping drops how)
+with_drops drops r = r
+
+-- with the options of an object an import does this with documents whose id is there
+abbrev pub with_existing : Existing → Request → Request
+with_existing e (request.Import stream was) = request.Import stream e
+with_existing e r = r

@@ -5,7 +5,7 @@ ghost use Rattle.std.specs.Prelude.{◌≡◌, ◌≢◌, ◌⊎◌, [], ℕ, If
 ghost use Rattle.std.specs.Option.{option_map};
 ghost use Rattle.json.specs.Value.{items_view, members_view, value_view as data_of};
 ghost use Rattle.store_sorted.specs.Bodies.{key_of, keys_of};
-ghost use Rattle.fallowtime_requests.specs.Arranging.{AsksWanted, FindsDocuments, IsCount, IsOfNumbers, IsOfWords, IsPlan, Plan, PutsOption, PutsOptions, ReadsLine, ReadsThree, ReadsTwo, StopsOptions, StopsSort, StopsWanted, StopsWith, after_in, key_in, keys_behind, keys_under, plan_of, turn_in, whole, with_wanted};
+ghost use Rattle.fallowtime_requests.specs.Arranging.{AsksWanted, FindsDocuments, IsCount, IsOfNumbers, IsOfWords, IsPlan, Plan, PutsOption, PutsOptions, ReadsLine, ReadsThree, ReadsTwo, StopsOptions, StopsSort, StopsWanted, StopsWith, after_in, key_in, keys_behind, keys_under, part_of, plan_of, turn_in, whole, with_wanted};
 ghost use Rattle.fallowtime_requests.specs.Plain.{are_plainly};
 ghost use Rattle.fallowtime_requests.specs.Reading.{KeepsMaker};
 ghost use Rattle.fallowtime_requests.specs.Requests.{WantsAll};
@@ -17,12 +17,15 @@ ghost use Rattle.fallowtime_words.specs.declared.command.Command.TheVariants as 
 use crate::choosing::change_of_line;
 use crate::counting::distinct_of_line;
 use crate::fields::{fields_in, fields_of_words};
+use crate::importing::import_of_line;
 use crate::keying::{set_of_line, unset_of_line};
+use crate::limiting::count_of_line;
 use crate::options::boolean_of;
 use crate::plain::are_plainly;
 use crate::reading::{Question, question_of_items};
-use crate::request::{Request, Wanted};
+use crate::request::{Part, Request, Wanted};
 use crate::stop::Stop;
+use crate::transferring::rename_of_line;
 use crate::unread::Unread;
 use bson_json_read::Scratch;
 use fallowtime_texts::IdMaker;
@@ -109,8 +112,18 @@ pub fn wanted_of_words(alloc: Global, words: &Words<'_>) -> Result<Wanted, Stop>
     })
 }
 
-/// Lets a question that finds documents return what is wanted of them, or of the one that it changes. Any other stays
-/// as it is.
+/// Which part of the documents is wanted.
+pub(crate) fn part_of(wanted: &Wanted) -> Part
+    ensures { result ≡ part_of wanted.now }
+{
+    Part {
+        skip: wanted.arrangement.skip,
+        limit: wanted.arrangement.limit,
+    }
+}
+
+/// Lets a question that finds documents return what is wanted of them, or of the one that it changes, and one that counts
+/// documents count the part that is wanted. Any other stays as it is.
 pub fn want(question: &mut Question<'_>, wanted: Wanted)
     ensures request { question.new.request ≡ with_wanted wanted question.old.request }
     ensures collection { question.new.collection ≡ question.old.collection }
@@ -119,6 +132,7 @@ pub fn want(question: &mut Question<'_>, wanted: Wanted)
     match &mut question.request {
         Request::Find(_, place) => *place = wanted,
         Request::FindAndChange(_, place, _) => *place = wanted,
+        Request::Count(_, place) => *place = part_of(&wanted),
         _ => {}
     }
 }
@@ -228,7 +242,7 @@ fn wanted_among(alloc: Global, changes: bool, members: &[(&str, Value<'_>)]) -> 
 }
 
 /// What an object of options wants.
-fn wanted_of(alloc: Global, changes: bool, tree: &Value<'_>) -> Result<Wanted, Stop>
+pub(crate) fn wanted_of(alloc: Global, changes: bool, tree: &Value<'_>) -> Result<Wanted, Stop>
     ensures { MatchResult result (λ a. IsPlan changes (data_of tree.now) (plan_of a))
         (StopsOptions ((q : Plan) → IsPlan changes (data_of tree.now) q → ⊥)) }
 {
@@ -307,8 +321,9 @@ fn find_of_three<'w>(
 /// What a line asks for whose command has the values of an array as its arguments, as `question_of_items` says. Behind
 /// them `find`, `find-and-update`, `find-and-replace` and `find-and-delete` have an object of the options `sort`,
 /// `skip`, `limit` and `fields`, and the second and the third of these also `after`; `update` and `replace-one` have
-/// one with the option `upsert`, `distinct` one with the option `count`, and `set` and `unset` one with the option `key`,
-/// without which a key that has a dot is a path.
+/// one with the option `upsert`, `distinct` one with the option `count`, `count` one with the options `skip` and `limit`,
+/// `rename` one with the option `drop`, `import` one with `upsert` or `skip-existing`, and `set` and `unset` one with the option `key`, without which a key that has a
+/// dot is a path.
 ///
 /// `Words` as there, `Options` if that object can't be read, and `Equalities` if the equality fields of a query can't
 /// be set beside each other.
@@ -338,6 +353,9 @@ pub fn question_of_line<'w>(
             change_of_line(alloc, Command::ReplaceOne, false, items, maker, scratch)
         }
         Command::Distinct => distinct_of_line(alloc, items, maker, scratch),
+        Command::Count => count_of_line(alloc, items, maker, scratch),
+        Command::Rename => rename_of_line(alloc, items, maker, scratch),
+        Command::Import => import_of_line(alloc, items, maker, scratch),
         Command::Set => set_of_line(alloc, items, maker, scratch),
         Command::Unset => unset_of_line(alloc, items, maker, scratch),
         _ => question_of_items(alloc, command, items, maker, scratch),

@@ -20,7 +20,7 @@ use crate::indexing::{drop_index, index};
 use crate::input::{Input, of_value, of_word};
 use crate::options::many_of;
 use crate::parts::{collection_of, document_of, id_of, key_of, path_of, query_in, value_of};
-use crate::request::{Request, Work};
+use crate::request::{Existing, Part, Request, Work};
 use crate::stop::Stop;
 use crate::stream::stream_in;
 use crate::transferring::{copy, drop_collection, rename};
@@ -158,6 +158,12 @@ fn with_value<'w>(
     }
 }
 
+/// All documents.
+const WHOLE: Part = Part {
+    skip: 0,
+    limit: None,
+};
+
 /// The question that every document answers.
 pub fn ask_for_all(alloc: Global) -> store_question::Question
     ensures { StandsFor result everything }
@@ -166,7 +172,7 @@ pub fn ask_for_all(alloc: Global) -> store_question::Question
 }
 
 /// A collection, and the question of the query, if there is one.
-fn with_query<'w>(
+pub(crate) fn with_query<'w>(
     alloc: Global,
     arguments: &[Input<'_, 'w>],
     scratch: &mut Scratch,
@@ -212,21 +218,22 @@ fn with_path_and_query<'w>(
 /// A collection, the question of the query, the steps of the update, and whether all documents are meant.
 fn with_update<'w>(
     alloc: Global,
+    maker: &IdMaker,
     arguments: &[Input<'_, 'w>],
     scratch: &mut Scratch,
 ) -> Result<(&'w str, store_question::Question, Vec<Step>, bool), Stop>
-    ensures { (m : Maker) → MatchResult result
-        (λ p. NameQueryUpdateAndMany (map seen arguments.now) p.0.now p.1 (plans_of p.2) p.3)
-        (IsUnread m (argument.Collection ∷ argument.Selection ∷ argument.Update ∷ argument.Options ∷ [])
+    ensures { MatchResult result
+        (λ p. NameQueryUpdateAndMany maker.now (map seen arguments.now) p.0.now p.1 (plans_of p.2) p.3)
+        (IsUnread maker.now (argument.Collection ∷ argument.Selection ∷ argument.Update ∷ argument.Options ∷ [])
         (map seen arguments.now)) }
 {
     match arguments {
         [name, query, update] => {
-            let (name, question, steps) = parts_of(alloc, *name, *query, *update, scratch)?;
+            let (name, question, steps) = parts_of(alloc, maker, *name, *query, *update, scratch)?;
             Ok((name, question, steps, false))
         }
         [name, query, update, options] => {
-            let (name, question, steps) = parts_of(alloc, *name, *query, *update, scratch)?;
+            let (name, question, steps) = parts_of(alloc, maker, *name, *query, *update, scratch)?;
             Ok((name, question, steps, many_of(*options)?))
         }
         _ => Err(Stop::Words(Unread::Arguments)),
@@ -282,16 +289,17 @@ fn with_replacement<'w>(
 /// A collection, the question of the query, and the steps of the update.
 fn with_steps<'w>(
     alloc: Global,
+    maker: &IdMaker,
     arguments: &[Input<'_, 'w>],
     scratch: &mut Scratch,
 ) -> Result<(&'w str, store_question::Question, Vec<Step>), Stop>
-    ensures { (m : Maker) → MatchResult result
-        (λ p. NameQueryAndUpdate (map seen arguments.now) p.0.now p.1 (plans_of p.2))
-        (IsUnread m (argument.Collection ∷ argument.Selection ∷ argument.Update ∷ [])
+    ensures { MatchResult result
+        (λ p. NameQueryAndUpdate maker.now (map seen arguments.now) p.0.now p.1 (plans_of p.2))
+        (IsUnread maker.now (argument.Collection ∷ argument.Selection ∷ argument.Update ∷ [])
         (map seen arguments.now)) }
 {
     match arguments {
-        [name, query, update] => parts_of(alloc, *name, *query, *update, scratch),
+        [name, query, update] => parts_of(alloc, maker, *name, *query, *update, scratch),
         _ => Err(Stop::Words(Unread::Arguments)),
     }
 }
@@ -400,11 +408,12 @@ fn unset<'w>(
 fn update<'w>(
     alloc: Global,
     arguments: &[Input<'_, 'w>],
+    maker: &IdMaker,
     scratch: &mut Scratch,
 ) -> Result<Question<'w>, Stop>
-    ensures { (m : Maker) → Reads m m commands.Update (map seen arguments.now) result }
+    ensures { Reads maker.now maker.now commands.Update (map seen arguments.now) result }
 {
-    let (collection, question, steps, many) = with_update(alloc, arguments, scratch)?;
+    let (collection, question, steps, many) = with_update(alloc, maker, arguments, scratch)?;
     let work = Work::Update(steps);
     Ok(plain(collection, Request::Change(question, work, many)))
 }
@@ -435,11 +444,12 @@ fn delete<'w>(
 fn find_and_update<'w>(
     alloc: Global,
     arguments: &[Input<'_, 'w>],
+    maker: &IdMaker,
     scratch: &mut Scratch,
 ) -> Result<Question<'w>, Stop>
-    ensures { (m : Maker) → Reads m m commands.FindAndUpdate (map seen arguments.now) result }
+    ensures { Reads maker.now maker.now commands.FindAndUpdate (map seen arguments.now) result }
 {
-    let (collection, question, steps) = with_steps(alloc, arguments, scratch)?;
+    let (collection, question, steps) = with_steps(alloc, maker, arguments, scratch)?;
     let work = Work::Update(steps);
     Ok(plain(
         collection,
@@ -504,7 +514,7 @@ fn count<'w>(
     ensures { (m : Maker) → Reads m m commands.Count (map seen arguments.now) result }
 {
     let (collection, query) = with_query(alloc, arguments, scratch)?;
-    Ok(plain(collection, Request::Count(query)))
+    Ok(plain(collection, Request::Count(query, WHOLE)))
 }
 
 fn distinct<'w>(
@@ -529,7 +539,7 @@ fn import<'w>(
         [name, documents] => {
             let collection = collection_of(*name)?;
             let stream = stream_in(alloc, *documents, maker)?;
-            Ok(plain(collection, Request::Import(stream)))
+            Ok(plain(collection, Request::Import(stream, Existing::Refuse)))
         }
         _ => Err(Stop::Words(Unread::Arguments)),
     }
@@ -582,10 +592,10 @@ fn question_of<'w>(
         Command::Get => get(alloc, arguments, scratch),
         Command::Set => set(alloc, arguments, scratch),
         Command::Unset => unset(alloc, arguments, scratch),
-        Command::Update => update(alloc, arguments, scratch),
+        Command::Update => update(alloc, arguments, maker, scratch),
         Command::ReplaceOne => replace_one(alloc, arguments, scratch),
         Command::Delete => delete(alloc, arguments, scratch),
-        Command::FindAndUpdate => find_and_update(alloc, arguments, scratch),
+        Command::FindAndUpdate => find_and_update(alloc, arguments, maker, scratch),
         Command::FindAndReplace => find_and_replace(alloc, arguments, scratch),
         Command::FindAndDelete => find_and_delete(alloc, arguments, scratch),
         Command::Remove => remove(alloc, arguments, scratch),
@@ -602,6 +612,7 @@ fn question_of<'w>(
         Command::Collections => collections(arguments),
         Command::Check => check(arguments),
         Command::Backup
+        | Command::Apply
         | Command::Version
         | Command::ImportAll
         | Command::ExportAll

@@ -26,15 +26,51 @@ pub enum Otherwise {
     Refuse(UpdateError),
 }
 
+/// What becomes of a document of an import whose `_id` the collection has, or an earlier document of the import.
+#[derive(Clone, Copy, Debug, PartialEq, Eq)]
+pub enum Existing {
+    /// The import is refused.
+    Refuse,
+    /// It takes the place of the one that is there.
+    Replace,
+    /// It is left out.
+    Skip,
+}
+
 /// What becomes of a whole collection.
 #[derive(Clone, Copy, Debug, Drop)]
 pub enum Transfer<'w> {
     /// All its documents are removed.
     Drop,
-    /// Its documents go to the collection of this name.
-    Rename(&'w str),
+    /// Its documents go to the collection of this name, and take the place of those that this one has, if so; else it
+    /// may have none.
+    Rename(&'w str, bool),
     /// Its documents are in the collection of this name, too.
     Copy(&'w str),
+}
+
+impl<'w> Transfer<'w> {
+    ghost use Rattle.std.specs.Prelude.{◌≡◌};
+    ghost use Rattle.fallowtime_requests.specs.Requests.{dropping};
+
+    /// The same, and whether the documents that the other collection has are removed.
+    fn dropping(self, drops: bool) -> Transfer<'w>
+        ensures { result ≡ dropping drops self.entry }
+    {
+        match self {
+            Transfer::Rename(new, _) => Transfer::Rename(new, drops),
+            other => other,
+        }
+    }
+}
+
+/// A part of documents, by their number.
+#[derive(Clone, Copy, Debug)]
+pub struct Part {
+    /// How many are passed over.
+    pub skip: usize,
+    /// How many it has at most, if that is limited.
+    pub limit: Option<usize>,
 }
 
 /// What is returned of the documents that are found.
@@ -75,12 +111,12 @@ pub enum Request<'w> {
     Find(Question, Wanted),
     /// To change the first of the documents that are found so, and to return it.
     FindAndChange(Question, Wanted, Work),
-    /// How many documents answer a question.
-    Count(Question),
+    /// How many documents a part has of those that answer a question.
+    Count(Question, Part),
     /// The different values at a path of the documents that answer a question; if so, with how many have each.
     Distinct(Vec<String>, Question, bool),
-    /// To put in the documents of a stream of BSON, all or none.
-    Import(Vec<u8>),
+    /// To put in the documents of a stream of BSON, all or none, and what becomes of those whose `_id` is there.
+    Import(Vec<u8>, Existing),
     /// To remove all documents, to give them to another collection, or to copy them there.
     Transfer(Transfer<'w>),
     /// To make an index on a path.
@@ -95,7 +131,7 @@ pub enum Request<'w> {
 
 impl<'w> Request<'w> {
     ghost use Rattle.std.specs.Prelude.{◌≡◌};
-    ghost use Rattle.fallowtime_requests.specs.Requests.{with_counts, with_many};
+    ghost use Rattle.fallowtime_requests.specs.Requests.{with_counts, with_drops, with_many};
 
     /// The request with the option `--many`, if that is given: a change by query is then one of all documents that
     /// answer.
@@ -119,6 +155,17 @@ impl<'w> Request<'w> {
             Request::Distinct(path, question, all) => {
                 Request::Distinct(path, question, counts || all)
             }
+            other => other,
+        }
+    }
+
+    /// The request with the option `--drop`, or without it: whether a collection may take the name of another one, which
+    /// is removed.
+    pub fn with_drops(self, drops: bool) -> Request<'w>
+        ensures { result ≡ with_drops drops self.entry }
+    {
+        match self {
+            Request::Transfer(how) => Request::Transfer(how.dropping(drops)),
             other => other,
         }
     }

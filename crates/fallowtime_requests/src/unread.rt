@@ -53,6 +53,7 @@ pub(crate) fn beyond(command: Command) -> Unread
 {
     match command {
         Command::Backup
+        | Command::Apply
         | Command::Version
         | Command::ImportAll
         | Command::ExportAll

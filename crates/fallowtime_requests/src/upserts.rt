@@ -17,13 +17,12 @@ use crate::reading::{Question, own_id};
 use crate::request::{Otherwise, Request, Work};
 use crate::stop::Stop;
 use crate::unread::Unread;
-use crate::updates::fault_in;
 use bson_json_read::Scratch;
 use bson_meaning::same_meaning;
 use bson_model::{Bson, Document};
 use fallowtime_texts::{IdMaker, with_front_id, with_id};
 use fallowtime_words::Words;
-use json::Value;
+use json::{MAX_DEPTH, Reader, Value};
 use std::alloc::{AllocError, Global};
 use store_update::{Step, UpdateError, updated};
 use store_update_read::{ReadError, Seed, seed_of};
@@ -143,6 +142,13 @@ fn otherwise_of(
             _ => Ok(Otherwise::Refuse(error)),
         },
     }
+}
+
+/// The byte at which a text is seen to be no JSON.
+fn fault_in(text: &str, scratch: &mut Scratch) -> Result<usize, AllocError> {
+    let mut reader = Reader::new(text, scratch)?;
+    let _passed = reader.skip_value(MAX_DEPTH);
+    Ok(reader.offset())
 }
 
 /// What a text fixes as a query.

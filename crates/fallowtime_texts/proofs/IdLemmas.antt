@@ -17,12 +17,12 @@ use Rattle.bson_model.specs.View.{content, members_of, pairs_of}
 use Rattle.bson_model.specs.declared.bson.Bson.{Bson}
 use Rattle.bson_model.specs.declared.document.Document.{Document}
 use Rattle.store_model.specs.State.{id_key}
-use Rattle.fallowtime_texts.specs.Made.{made_bytes, maker_at, next_maker, id_member, identified, maker_after}
+use Rattle.fallowtime_texts.specs.Made.{made_bytes, maker_at, next_maker, seconds_of, id_member, identified, maker_after}
 use Rattle.fallowtime_texts.specs.declared.made.IdMaker.{IdMaker}
 
-pub numbers_same : (seconds m n : ℕ) → m < 2 ^ 64 → n < 2 ^ 64 → made_bytes (maker_at seconds m) ≡ made_bytes (maker_at seconds n) → m ≡ n
-numbers_same seconds m n below also same =
-    let numbers : to_be_bytes w64 m ≡ to_be_bytes w64 n = append_cancel_left (to_be_bytes w32 seconds) (to_be_bytes w64 m) (to_be_bytes w64 n) same in
+pub numbers_same : (time m n : ℕ) → m < 2 ^ 64 → n < 2 ^ 64 → made_bytes (maker_at time m) ≡ made_bytes (maker_at time n) → m ≡ n
+numbers_same time m n below also same =
+    let numbers : to_be_bytes w64 m ≡ to_be_bytes w64 n = append_cancel_left (to_be_bytes w32 (seconds_of time)) (to_be_bytes w64 m) (to_be_bytes w64 n) same in
     sym (from_be_bytes-to_be_bytes_8 m below) ∙ ap (from_be_bytes w64) numbers ∙ from_be_bytes-to_be_bytes_8 n also
 
 -- whether there is an `_id`, of pairs and of members

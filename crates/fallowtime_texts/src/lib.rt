@@ -9,5 +9,5 @@ mod printed;
 
 pub use ids::id_of_word;
 pub use lines::{Taken, read_lines};
-pub use made::{IdMaker, with_front_id, with_id};
+pub use made::{Clock, IdMaker, with_front_id, with_id};
 pub use printed::{PrintFault, text_of_body, text_of_value};

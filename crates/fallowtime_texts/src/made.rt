@@ -1,49 +1,76 @@
-//! Ids that are made.
+//! Ids that are made, and the time that goes with them.
 
 ghost use Rattle.std.specs.Prelude.{◌≡◌, ◌∷◌, false, map, IfOk};
 ghost use Rattle.bson_base.specs.Value.{has_key, member};
 ghost use Rattle.bson_model.specs.Rest.{owned_member};
 ghost use Rattle.bson_model.specs.View.{content, pairs_of, view};
 ghost use Rattle.store_model.specs.State.{id_key};
-ghost use Rattle.fallowtime_texts.specs.Made.{id_member, identified, maker_after, next_maker};
+ghost use Rattle.fallowtime_texts.specs.Made.{id_member, identified, maker_after, next_maker, seconds_of};
 
-use bson_base::ObjectId;
+use bson_base::{DateTime, ObjectId};
 use bson_model::{Bson, Document};
 use std::alloc::{AllocError, Global};
 
-/// What makes object ids: each is the seconds that it was made with and a number, which grows by one from id to id. So
+/// What tells the time. No clause says what it tells.
+pub trait Clock {
+    /// The milliseconds since 1970.
+    fn millis(&mut self) -> u64;
+}
+
+/// The seconds of an id that is made at this time.
+fn seconds_of(millis: u64) -> u32
+    ensures { result ≡ seconds_of millis }
+{
+    (millis / 1000 % (1 << 32)) as u32
+}
+
+/// What makes object ids, at a time: each is the seconds of that and a number, which grows by one from id to id. So
 /// the first 2⁶⁴ ids of one maker differ.
 #[derive(Debug, Drop)]
 pub struct IdMaker {
-    seconds: u32,
+    millis: u64,
     next: u64,
 }
 
 impl IdMaker {
     ghost use Rattle.std.specs.Prelude.{◌≡◌};
-    ghost use Rattle.bson_base.specs.Scalars.{id_bytes};
-    ghost use Rattle.fallowtime_texts.specs.Made.{made_bytes, maker_at, next_maker};
+    ghost use Rattle.bson_base.specs.Scalars.{id_bytes, millis_of};
+    ghost use Rattle.fallowtime_texts.specs.Made.{at_time, date_of, made_bytes, maker_at, next_maker};
 
-    /// A maker whose ids have these seconds, since 1970, and whose first one has this number.
-    pub fn new(seconds: u32, first: u64) -> IdMaker
-        ensures { result ≡ maker_at seconds first }
+    /// A maker at this time, in milliseconds since 1970, whose first id has this number.
+    pub fn new(millis: u64, first: u64) -> IdMaker
+        ensures { result ≡ maker_at millis first }
     {
         IdMaker {
-            seconds,
+            millis,
             next: first,
         }
     }
 
-    /// The next id: 4 bytes of seconds and 8 of the number, the highest byte first in both. After the greatest number
-    /// comes 0.
+    /// The next id: 4 bytes of seconds since 1970, which begin anew after 2³² of them, and 8 of the number, the highest
+    /// byte first in both. After the greatest number comes 0.
     pub fn make(&mut self) -> ObjectId
         ensures bytes { id_bytes result ≡ made_bytes self.old }
         ensures next { self.new ≡ next_maker self.old }
     {
-        let [a, b, c, d] = self.seconds.to_be_bytes();
+        let [a, b, c, d] = seconds_of(self.millis).to_be_bytes();
         let [e, f, g, h, i, j, k, l] = self.next.to_be_bytes();
         self.next = self.next.wrapping_add(1);
         ObjectId::from_bytes([a, b, c, d, e, f, g, h, i, j, k, l])
+    }
+
+    /// The time of the maker, as a date; the last one that there is, if it is beyond that.
+    pub fn now(&self) -> DateTime
+        ensures { millis_of result ≡ date_of self.now }
+    {
+        DateTime::from_millis(self.millis.min(i64::MAX as u64) as i64)
+    }
+
+    /// The maker is at this time from now on, in milliseconds since 1970.
+    pub fn set_time(&mut self, millis: u64)
+        ensures { self.new ≡ at_time millis self.old }
+    {
+        self.millis = millis;
     }
 
     /// A maker of the same ids that this one would make next. The caller drops one of the two.
@@ -51,7 +78,7 @@ impl IdMaker {
         ensures { result ≡ self.now }
     {
         IdMaker {
-            seconds: self.seconds,
+            millis: self.millis,
             next: self.next,
         }
     }

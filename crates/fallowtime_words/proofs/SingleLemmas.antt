@@ -5,7 +5,7 @@ use Rattle.fallowtime_words.specs.Options.{Spell, AreOptions, no_options, with_a
 use Rattle.fallowtime_words.specs.Reading.{MayFollow}
 use Rattle.fallowtime_words.specs.Words.{Asked, line, session, AreOfSession, HasRest, IsTask}
 use Rattle.fallowtime_words.specs.declared.command.Command.{Command}
-use Rattle.fallowtime_words.specs.declared.command.Command.TheVariants.{Insert, Put, Replace, Get, Set, Unset, Update, ReplaceOne, Delete, FindAndUpdate, FindAndReplace, FindAndDelete, Remove, Find, Count, Distinct, Import, Export, Drop, Rename, Copy, Collections, Check, Backup, Index, DropIndex, Version, ImportAll, ExportAll, Edit}
+use Rattle.fallowtime_words.specs.declared.command.Command.TheVariants.{Insert, Put, Replace, Get, Set, Unset, Update, ReplaceOne, Delete, FindAndUpdate, FindAndReplace, FindAndDelete, Remove, Find, Count, Distinct, Import, Export, Drop, Rename, Copy, Collections, Check, Backup, Apply, Index, DropIndex, Version, ImportAll, ExportAll, Edit}
 use Rattle.fallowtime_words.specs.declared.options.Given.{Given}
 use Rattle.fallowtime_words.specs.declared.options.Options.{Options}
 use Rattle.fallowtime_words.specs.declared.table.Argument.{Argument}
@@ -39,6 +39,7 @@ command_is Copy = refl
 command_is Collections = refl
 command_is Check = refl
 command_is Backup = refl
+command_is Apply = refl
 command_is Index = refl
 command_is DropIndex = refl
 command_is Version = refl
@@ -75,6 +76,7 @@ no_option_name Copy (rest, e) = let first : 99 ≡ 45 = ap (λ w. slice_index w 
 no_option_name Collections (rest, e) = let first : 99 ≡ 45 = ap (λ w. slice_index w 0) e in absurd (omega (arith, first))
 no_option_name Check (rest, e) = let first : 99 ≡ 45 = ap (λ w. slice_index w 0) e in absurd (omega (arith, first))
 no_option_name Backup (rest, e) = let first : 98 ≡ 45 = ap (λ w. slice_index w 0) e in absurd (omega (arith, first))
+no_option_name Apply (rest, e) = let first : 97 ≡ 45 = ap (λ w. slice_index w 0) e in absurd (omega (arith, first))
 no_option_name Index (rest, e) = let first : 105 ≡ 45 = ap (λ w. slice_index w 0) e in absurd (omega (arith, first))
 no_option_name DropIndex (rest, e) = let first : 100 ≡ 45 = ap (λ w. slice_index w 0) e in absurd (omega (arith, first))
 no_option_name Version (rest, e) = let first : 118 ≡ 45 = ap (λ w. slice_index w 0) e in absurd (omega (arith, first))

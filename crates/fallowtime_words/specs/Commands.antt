@@ -2,7 +2,7 @@
 use Rattle.std.specs.Prelude.{◌≡◌, ◌⊎◌, ℕ, List, [], ◌∷◌, ◌++◌, length, codes, if◌then◌else◌, true, false, Option, Some, None}
 use Rattle.std.specs.Str.{bytes_eq}
 use Rattle.fallowtime_words.specs.declared.command.Command.{Command}
-use Rattle.fallowtime_words.specs.declared.command.Command.TheVariants.{Insert, Put, Replace, Get, Set, Unset, Update, ReplaceOne, Delete, FindAndUpdate, FindAndReplace, FindAndDelete, Remove, Find, Count, Distinct, Import, Export, Drop, Rename, Copy, Collections, Check, Backup, Index, DropIndex, Version, ImportAll, ExportAll, Edit}
+use Rattle.fallowtime_words.specs.declared.command.Command.TheVariants.{Insert, Put, Replace, Get, Set, Unset, Update, ReplaceOne, Delete, FindAndUpdate, FindAndReplace, FindAndDelete, Remove, Find, Count, Distinct, Import, Export, Drop, Rename, Copy, Collections, Check, Backup, Apply, Index, DropIndex, Version, ImportAll, ExportAll, Edit}
 use Rattle.fallowtime_words.specs.declared.table.Allowed.{Allowed}
 use Rattle.fallowtime_words.specs.declared.table.Argument.{Argument}
 use Rattle.fallowtime_words.specs.declared.table.Argument.TheVariants.{Collection, Document, Id, Key, Value, Query, Selection, Update as Change, Options, Documents, IndexPath, NewName, File, Folder}
@@ -13,7 +13,7 @@ use Rattle.fallowtime_words.specs.declared.table.Place.TheVariants.{Both, Comman
 
 -- in the order of the help
 abbrev pub commands : List Command
-commands = Insert ∷ Put ∷ Replace ∷ Get ∷ Set ∷ Unset ∷ Update ∷ ReplaceOne ∷ Delete ∷ FindAndUpdate ∷ FindAndReplace ∷ FindAndDelete ∷ Remove ∷ Find ∷ Count ∷ Distinct ∷ Import ∷ Export ∷ Drop ∷ Rename ∷ Copy ∷ Collections ∷ Check ∷ Backup ∷ Index ∷ DropIndex ∷ Version ∷ ImportAll ∷ ExportAll ∷ Edit ∷ []
+commands = Insert ∷ Put ∷ Replace ∷ Get ∷ Set ∷ Unset ∷ Update ∷ ReplaceOne ∷ Delete ∷ FindAndUpdate ∷ FindAndReplace ∷ FindAndDelete ∷ Remove ∷ Find ∷ Count ∷ Distinct ∷ Import ∷ Export ∷ Drop ∷ Rename ∷ Copy ∷ Collections ∷ Check ∷ Backup ∷ Apply ∷ Index ∷ DropIndex ∷ Version ∷ ImportAll ∷ ExportAll ∷ Edit ∷ []
 
 abbrev pub command_name : Command → List ℕ
 command_name Insert = codes "insert"
@@ -40,6 +40,7 @@ command_name Copy = codes "copy"
 command_name Collections = codes "collections"
 command_name Check = codes "check"
 command_name Backup = codes "backup"
+command_name Apply = codes "apply"
 command_name Index = codes "index"
 command_name DropIndex = codes "drop_index"
 command_name Version = codes "version"
@@ -81,6 +82,7 @@ arguments Copy = Collection ∷ NewName ∷ []
 arguments Collections = []
 arguments Check = []
 arguments Backup = File ∷ []
+arguments Apply = []
 arguments Index = Collection ∷ IndexPath ∷ []
 arguments DropIndex = Collection ∷ IndexPath ∷ []
 arguments Version = []
@@ -90,26 +92,29 @@ arguments Edit = Collection ∷ Id ∷ []
 
 -- the options beside `--wait`
 abbrev pub allowed : Command → Allowed
-allowed Insert = record { canonical = true; bytes = false; lines = false; many = false; after = false; upsert = false; counts = false; literal = false; arranged = false }
-allowed Get = record { canonical = true; bytes = true; lines = false; many = false; after = false; upsert = false; counts = false; literal = false; arranged = false }
-allowed Find = record { canonical = true; bytes = true; lines = false; many = false; after = false; upsert = false; counts = false; literal = false; arranged = true }
-allowed Import = record { canonical = false; bytes = false; lines = true; many = false; after = false; upsert = false; counts = false; literal = false; arranged = false }
-allowed Update = record { canonical = false; bytes = false; lines = false; many = true; after = false; upsert = true; counts = false; literal = false; arranged = false }
-allowed ReplaceOne = record { canonical = false; bytes = false; lines = false; many = false; after = false; upsert = true; counts = false; literal = false; arranged = false }
-allowed FindAndUpdate = record { canonical = true; bytes = true; lines = false; many = false; after = true; upsert = false; counts = false; literal = false; arranged = true }
-allowed FindAndReplace = record { canonical = true; bytes = true; lines = false; many = false; after = true; upsert = false; counts = false; literal = false; arranged = true }
-allowed FindAndDelete = record { canonical = true; bytes = true; lines = false; many = false; after = false; upsert = false; counts = false; literal = false; arranged = true }
-allowed Delete = record { canonical = false; bytes = false; lines = false; many = true; after = false; upsert = false; counts = false; literal = false; arranged = false }
-allowed Distinct = record { canonical = true; bytes = false; lines = false; many = false; after = false; upsert = false; counts = true; literal = false; arranged = false }
-allowed Set = record { canonical = false; bytes = false; lines = false; many = false; after = false; upsert = false; counts = false; literal = true; arranged = false }
-allowed Unset = record { canonical = false; bytes = false; lines = false; many = false; after = false; upsert = false; counts = false; literal = true; arranged = false }
-allowed _ = record { canonical = false; bytes = false; lines = false; many = false; after = false; upsert = false; counts = false; literal = false; arranged = false }
+allowed Insert = record { canonical = true; bytes = false; lines = false; many = false; after = false; upsert = false; skip_existing = false; counts = false; literal = false; drops = false; arranged = false; part = false }
+allowed Get = record { canonical = true; bytes = true; lines = false; many = false; after = false; upsert = false; skip_existing = false; counts = false; literal = false; drops = false; arranged = false; part = false }
+allowed Find = record { canonical = true; bytes = true; lines = false; many = false; after = false; upsert = false; skip_existing = false; counts = false; literal = false; drops = false; arranged = true; part = true }
+allowed Import = record { canonical = false; bytes = false; lines = true; many = false; after = false; upsert = true; skip_existing = true; counts = false; literal = false; drops = false; arranged = false; part = false }
+allowed Update = record { canonical = false; bytes = false; lines = false; many = true; after = false; upsert = true; skip_existing = false; counts = false; literal = false; drops = false; arranged = false; part = false }
+allowed ReplaceOne = record { canonical = false; bytes = false; lines = false; many = false; after = false; upsert = true; skip_existing = false; counts = false; literal = false; drops = false; arranged = false; part = false }
+allowed FindAndUpdate = record { canonical = true; bytes = true; lines = false; many = false; after = true; upsert = false; skip_existing = false; counts = false; literal = false; drops = false; arranged = true; part = true }
+allowed FindAndReplace = record { canonical = true; bytes = true; lines = false; many = false; after = true; upsert = false; skip_existing = false; counts = false; literal = false; drops = false; arranged = true; part = true }
+allowed FindAndDelete = record { canonical = true; bytes = true; lines = false; many = false; after = false; upsert = false; skip_existing = false; counts = false; literal = false; drops = false; arranged = true; part = true }
+allowed Delete = record { canonical = false; bytes = false; lines = false; many = true; after = false; upsert = false; skip_existing = false; counts = false; literal = false; drops = false; arranged = false; part = false }
+allowed Distinct = record { canonical = true; bytes = false; lines = false; many = false; after = false; upsert = false; skip_existing = false; counts = true; literal = false; drops = false; arranged = false; part = false }
+allowed Set = record { canonical = false; bytes = false; lines = false; many = false; after = false; upsert = false; skip_existing = false; counts = false; literal = true; drops = false; arranged = false; part = false }
+allowed Unset = record { canonical = false; bytes = false; lines = false; many = false; after = false; upsert = false; skip_existing = false; counts = false; literal = true; drops = false; arranged = false; part = false }
+allowed Count = record { canonical = false; bytes = false; lines = false; many = false; after = false; upsert = false; skip_existing = false; counts = false; literal = false; drops = false; arranged = false; part = true }
+allowed Rename = record { canonical = false; bytes = false; lines = false; many = false; after = false; upsert = false; skip_existing = false; counts = false; literal = false; drops = true; arranged = false; part = false }
+allowed _ = record { canonical = false; bytes = false; lines = false; many = false; after = false; upsert = false; skip_existing = false; counts = false; literal = false; drops = false; arranged = false; part = false }
 
 -- what becomes of FILE
 abbrev pub effect : Command → Effect
 effect Insert = Makes
 effect Put = Makes
 effect Import = Makes
+effect Apply = Makes
 effect ImportAll = Makes
 effect Replace = Changes
 effect Set = Changes
@@ -130,6 +135,7 @@ effect _ = Reads
 -- where it is a command
 abbrev pub place : Command → Place
 place Backup = CommandLine
+place Apply = CommandLine
 place Index = Session
 place DropIndex = Session
 place Version = Alone

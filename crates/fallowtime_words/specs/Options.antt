@@ -10,7 +10,7 @@ use Rattle.fallowtime_words.specs.declared.options.Given.{Given}
 use Rattle.fallowtime_words.specs.declared.options.OptionValue.{OptionValue}
 use Rattle.fallowtime_words.specs.declared.options.OptionValue.TheVariants.{Nothing, Number, Text}
 use Rattle.fallowtime_words.specs.declared.options.OptionName.{OptionName}
-use Rattle.fallowtime_words.specs.declared.options.OptionName.TheVariants.{Canonical, Bytes, Lines, Many, After, Upsert, Counts, Literal, Messages, Wait, Sort, Skip, Limit, Fields, Without}
+use Rattle.fallowtime_words.specs.declared.options.OptionName.TheVariants.{Canonical, Bytes, Lines, Many, After, Upsert, SkipExisting, Counts, Literal, Drops, Messages, Wait, Sort, Skip, Limit, Fields, Without}
 use Rattle.fallowtime_words.specs.declared.options.Options.{Options}
 
 -- decimal digits, and the number that they write
@@ -26,8 +26,10 @@ option_named word =
     else if bytes_eq word (codes "many") then Some Many
     else if bytes_eq word (codes "after") then Some After
     else if bytes_eq word (codes "upsert") then Some Upsert
+    else if bytes_eq word (codes "skip-existing") then Some SkipExisting
     else if bytes_eq word (codes "count") then Some Counts
     else if bytes_eq word (codes "key") then Some Literal
+    else if bytes_eq word (codes "drop") then Some Drops
     else if bytes_eq word (codes "messages") then Some Messages
     else if bytes_eq word (codes "wait") then Some Wait
     else if bytes_eq word (codes "sort") then Some Sort
@@ -66,7 +68,7 @@ Spell words [] = words ≡ []
 Spell words (g ∷ gs) = (behind : List (List ℕ)) × Lead words g behind × Spell behind gs
 
 abbrev pub no_options : Options
-no_options = record { canonical = false; bytes = false; lines = false; many = false; after = false; upsert = false; counts = false; literal = false; messages = false; seconds = None; sort = None; skip = None; limit = None; fields = None; without = None }
+no_options = record { canonical = false; bytes = false; lines = false; many = false; after = false; upsert = false; skip_existing = false; counts = false; literal = false; drops = false; messages = false; seconds = None; sort = None; skip = None; limit = None; fields = None; without = None }
 
 -- the options and one more, if it isn't among them: one that says in which form, and which, documents are read or printed
 abbrev pub with_form : OptionName → Options → Option Options
@@ -82,7 +84,9 @@ abbrev pub with_change : OptionName → Options → Option Options
 with_change Many o = if o.many then None else Some (record o { many = true })
 with_change After o = if o.after then None else Some (record o { after = true })
 with_change Upsert o = if o.upsert then None else Some (record o { upsert = true })
+with_change SkipExisting o = if o.skip_existing then None else Some (record o { skip_existing = true })
 with_change Literal o = if o.literal then None else Some (record o { literal = true })
+with_change Drops o = if o.drops then None else Some (record o { drops = true })
 with_change _ o = None
 
 -- one that has a number
@@ -104,7 +108,9 @@ with_option Messages n o = with_form Messages o
 with_option Many n o = with_change Many o
 with_option After n o = with_change After o
 with_option Upsert n o = with_change Upsert o
+with_option SkipExisting n o = with_change SkipExisting o
 with_option Literal n o = with_change Literal o
+with_option Drops n o = with_change Drops o
 with_option name n o = with_number name n o
 
 abbrev pub added : Given → Options → Option Options
@@ -119,13 +125,17 @@ with_all (g ∷ gs) o = option_and_then (λ more. with_all gs more) (added g o)
 abbrev pub AreOptions : List (List ℕ) → Options → Type 0
 AreOptions words o = (gs : List Given) × Spell words gs × (with_all gs no_options ≡ Some o)
 
--- an order, a part or fields are asked for
+-- an order or fields are asked for
 abbrev pub IsArranged : Options → Type 0
-IsArranged o = (is_some o.sort ≡ true) ⊎ (is_some o.skip ≡ true) ⊎ (is_some o.limit ≡ true) ⊎ (is_some o.fields ≡ true) ⊎ (is_some o.without ≡ true)
+IsArranged o = (is_some o.sort ≡ true) ⊎ (is_some o.fields ≡ true) ⊎ (is_some o.without ≡ true)
+
+-- a part is asked for
+abbrev pub IsPart : Options → Type 0
+IsPart o = (is_some o.skip ≡ true) ⊎ (is_some o.limit ≡ true)
 
 -- no option except `--messages` and `--wait`
 abbrev pub IsOfSession : Options → Type 0
-IsOfSession o = (o.canonical ≡ false) × (o.bytes ≡ false) × (o.lines ≡ false) × (o.many ≡ false) × (o.after ≡ false) × (o.upsert ≡ false) × (o.counts ≡ false) × (o.literal ≡ false) × (IsArranged o → ⊥)
+IsOfSession o = (o.canonical ≡ false) × (o.bytes ≡ false) × (o.lines ≡ false) × (o.many ≡ false) × (o.after ≡ false) × (o.upsert ≡ false) × (o.skip_existing ≡ false) × (o.counts ≡ false) × (o.literal ≡ false) × (o.drops ≡ false) × (IsArranged o → ⊥) × (IsPart o → ⊥)
 
 -- a row allows the options that say in which form, and which, documents are read or printed
 pub record FormsAreAllowed (row : Allowed) (o : Options) : Type 0 where
@@ -134,13 +144,16 @@ pub record FormsAreAllowed (row : Allowed) (o : Options) : Type 0 where
   pub lines : o.lines ≡ true → row.lines ≡ true
   pub counts : o.counts ≡ true → row.counts ≡ true
   pub arranged : IsArranged o → row.arranged ≡ true
+  pub part : IsPart o → row.part ≡ true
 
 -- it allows those that say what a change does
 pub record ChangesAreAllowed (row : Allowed) (o : Options) : Type 0 where
   pub many : o.many ≡ true → row.many ≡ true
   pub after : o.after ≡ true → row.after ≡ true
   pub upsert : o.upsert ≡ true → row.upsert ≡ true
+  pub skip_existing : o.skip_existing ≡ true → row.skip_existing ≡ true
   pub literal : o.literal ≡ true → row.literal ≡ true
+  pub drops : o.drops ≡ true → row.drops ≡ true
 
 -- the options are among those that a row allows; none allows `--messages`
 pub record AreAllowed (row : Allowed) (o : Options) : Type 0 where
@@ -148,10 +161,12 @@ pub record AreAllowed (row : Allowed) (o : Options) : Type 0 where
   pub changes : ChangesAreAllowed row o
   pub messages : o.messages ≡ false
 
--- The options that a command has on a command line. Documents are printed as canonical Extended JSON or written as BSON.
+-- The options that a command has on a command line. Documents are printed as canonical Extended JSON or written as BSON; of an import
+-- they take the place of those with their ids or leave these.
 pub record Takes (command : Command) (o : Options) : Type 0 where
   pub is_one : place command ≢ Session
   pub has_file : place command ≢ Alone
   pub is_done_here : place command ≢ Script
   pub among : AreAllowed (allowed command) o
   pub one_form : (o.canonical ≡ false) ⊎ (o.bytes ≡ false)
+  pub one_way : (o.upsert ≡ false) ⊎ (o.skip_existing ≡ false)

@@ -42,17 +42,19 @@ pub enum Command {
     Remove,
     /// `find COLL [QUERY]`: prints the selected documents.
     Find,
-    /// `count COLL [QUERY]`: prints how many documents are selected.
+    /// `count COLL [QUERY]`: prints how many documents are selected, or how many of them a part has.
     Count,
     /// `distinct COLL PATH [QUERY]`: prints the different values at a path of the selected documents.
     Distinct,
-    /// `import COLL`: takes in documents from standard input, all or none, and prints their number.
+    /// `import COLL`: takes in documents from standard input, all or none, and prints their number. With `--upsert` they
+    /// take the place of those with their `_id`s, and with `--skip-existing` these stay.
     Import,
     /// `export COLL`: writes all documents as BSON.
     Export,
     /// `drop COLL`: removes all documents of a collection, and prints how many.
     Drop,
-    /// `rename COLL NEW`: gives a collection another name, and prints how many documents it has.
+    /// `rename COLL NEW`: gives a collection another name, with `--drop` that of one that is removed, and prints how many
+    /// documents it has.
     Rename,
     /// `copy COLL NEW`: puts the documents of a collection into a new one, and prints how many.
     Copy,
@@ -62,6 +64,8 @@ pub enum Command {
     Check,
     /// `backup PATH`: writes a whole copy of the store.
     Backup,
+    /// `apply`: does the requests that are lines of standard input as one list, all or none, and prints their answers.
+    Apply,
     /// `index COLL PATH`: makes an index until the session ends.
     Index,
     /// `drop_index COLL PATH`: drops an index.
@@ -139,5 +143,6 @@ impl Command {
             && row.place != Place::Script
             && options.are_among(row.options)
             && !(options.canonical && options.bytes)
+            && !(options.upsert && options.skip_existing)
     }
 }

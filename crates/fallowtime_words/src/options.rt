@@ -21,12 +21,16 @@ pub struct Options {
     pub many: bool,
     /// `--after`: a document that is changed is returned as it is afterwards; else as it was before.
     pub after: bool,
-    /// `--upsert`: a document is put in if none is selected.
+    /// `--upsert`: a document is put in if none is selected, or, of an import, takes the place of the one with its `_id`.
     pub upsert: bool,
+    /// `--skip-existing`: a document of an import whose `_id` is there is left out; else the import is refused.
+    pub skip_existing: bool,
     /// `--count`: of each value it is said how many documents have it; else not.
     pub counts: bool,
     /// `--key`: what names a value of a document is one key, as it is; else a path.
     pub literal: bool,
+    /// `--drop`: what the new collection has is removed; else it may have no document.
+    pub drops: bool,
     /// `--messages`: MongoDB's messages are answered; else lines.
     pub messages: bool,
     /// `--wait SECONDS`: how many seconds to wait for a file that another process has, if that is given.
@@ -58,10 +62,14 @@ pub enum OptionName {
     After,
     /// `--upsert`.
     Upsert,
+    /// `--skip-existing`.
+    SkipExisting,
     /// `--count`.
     Counts,
     /// `--key`.
     Literal,
+    /// `--drop`.
+    Drops,
     /// `--messages`.
     Messages,
     /// `--wait`.
@@ -104,8 +112,10 @@ fn option_named(word: &str) -> Option<OptionName>
         "many" => Some(OptionName::Many),
         "after" => Some(OptionName::After),
         "upsert" => Some(OptionName::Upsert),
+        "skip-existing" => Some(OptionName::SkipExisting),
         "count" => Some(OptionName::Counts),
         "key" => Some(OptionName::Literal),
+        "drop" => Some(OptionName::Drops),
         "messages" => Some(OptionName::Messages),
         "wait" => Some(OptionName::Wait),
         "sort" => Some(OptionName::Sort),
@@ -185,7 +195,7 @@ fn split_option(words: &[String]) -> Option<(Given, &[String])>
 
 impl Options {
     ghost use Rattle.std.specs.Prelude.{◌≡◌, ◌↔◌, IsTrue};
-    ghost use Rattle.fallowtime_words.specs.Options.{AreAllowed, ChangesAreAllowed, FormsAreAllowed, IsArranged, IsOfSession, added, with_change, with_form, with_number};
+    ghost use Rattle.fallowtime_words.specs.Options.{AreAllowed, ChangesAreAllowed, FormsAreAllowed, IsArranged, IsOfSession, IsPart, added, with_change, with_form, with_number};
 
     /// No option.
     const NONE: Options = Options {
@@ -195,8 +205,10 @@ impl Options {
         many: false,
         after: false,
         upsert: false,
+        skip_existing: false,
         counts: false,
         literal: false,
+        drops: false,
         messages: false,
         seconds: None,
         sort: None,
@@ -206,15 +218,18 @@ impl Options {
         without: None,
     };
 
-    /// Whether an order, a part or fields are asked for.
-    pub(crate) fn is_arranged(self) -> bool
+    /// Whether an order or fields are asked for.
+    fn is_arranged(self) -> bool
         ensures { IsTrue result ↔ IsArranged self }
     {
-        self.sort.is_some()
-            || self.skip.is_some()
-            || self.limit.is_some()
-            || self.fields.is_some()
-            || self.without.is_some()
+        self.sort.is_some() || self.fields.is_some() || self.without.is_some()
+    }
+
+    /// Whether a part is asked for.
+    fn is_part(self) -> bool
+        ensures { IsTrue result ↔ IsPart self }
+    {
+        self.skip.is_some() || self.limit.is_some()
     }
 
     /// Whether a row allows those of them that say in which form, and which, documents are read or printed.
@@ -226,6 +241,7 @@ impl Options {
             && (!self.lines || row.lines)
             && (!self.counts || row.counts)
             && (!self.is_arranged() || row.arranged)
+            && (!self.is_part() || row.part)
     }
 
     /// Whether it allows those that say what a change does.
@@ -235,7 +251,9 @@ impl Options {
         (!self.many || row.many)
             && (!self.after || row.after)
             && (!self.upsert || row.upsert)
+            && (!self.skip_existing || row.skip_existing)
             && (!self.literal || row.literal)
+            && (!self.drops || row.drops)
     }
 
     /// Whether each is among those that a row allows.
@@ -255,9 +273,12 @@ impl Options {
             && !self.many
             && !self.after
             && !self.upsert
+            && !self.skip_existing
             && !self.counts
             && !self.literal
+            && !self.drops
             && !self.is_arranged()
+            && !self.is_part()
     }
 
     /// These options and one that says in which form, and which, documents are read or printed; none if it is among
@@ -304,8 +325,16 @@ impl Options {
                 upsert: true,
                 ..self
             }),
+            OptionName::SkipExisting if !self.skip_existing => Some(Options {
+                skip_existing: true,
+                ..self
+            }),
             OptionName::Literal if !self.literal => Some(Options {
                 literal: true,
+                ..self
+            }),
+            OptionName::Drops if !self.drops => Some(Options {
+                drops: true,
                 ..self
             }),
             _ => None,
@@ -355,9 +384,12 @@ impl Options {
             | OptionName::Lines
             | OptionName::Counts
             | OptionName::Messages => self.with_form(given.name),
-            OptionName::Many | OptionName::After | OptionName::Upsert | OptionName::Literal => {
-                self.with_change(given.name)
-            }
+            OptionName::Many
+            | OptionName::After
+            | OptionName::Upsert
+            | OptionName::SkipExisting
+            | OptionName::Literal
+            | OptionName::Drops => self.with_change(given.name),
             _ => self.with_number(given.name, given.number),
         }
     }

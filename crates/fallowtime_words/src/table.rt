@@ -27,7 +27,7 @@ pub enum Argument {
     Documents,
     /// PATH of an index or of values: keys with dots between them.
     IndexPath,
-    /// NEW: the name of a collection that has no document yet.
+    /// NEW: the name of a collection that has no document yet, or, with `--drop`, of any other.
     NewName,
     /// PATH: a file that isn't there.
     File,
@@ -76,12 +76,18 @@ pub struct Allowed {
     pub after: bool,
     /// `--upsert`.
     pub upsert: bool,
+    /// `--skip-existing`.
+    pub skip_existing: bool,
     /// `--count`.
     pub counts: bool,
     /// `--key`.
     pub literal: bool,
-    /// `--sort`, `--skip`, `--limit`, `--fields` and `--without`.
+    /// `--drop`.
+    pub drops: bool,
+    /// `--sort`, `--fields` and `--without`.
     pub arranged: bool,
+    /// `--skip` and `--limit`.
+    pub part: bool,
 }
 
 /// A row of the table.
@@ -110,9 +116,12 @@ const NO_OPTION: Allowed = Allowed {
     many: false,
     after: false,
     upsert: false,
+    skip_existing: false,
     counts: false,
     literal: false,
+    drops: false,
     arranged: false,
+    part: false,
 };
 
 const CANONICAL: Allowed = Allowed {
@@ -127,7 +136,13 @@ const PRINTED: Allowed = Allowed {
 
 const FOUND: Allowed = Allowed {
     arranged: true,
+    part: true,
     ..PRINTED
+};
+
+const PART: Allowed = Allowed {
+    part: true,
+    ..NO_OPTION
 };
 
 const FOUND_AFTER: Allowed = Allowed {
@@ -135,8 +150,10 @@ const FOUND_AFTER: Allowed = Allowed {
     ..FOUND
 };
 
-const LINES: Allowed = Allowed {
+const IMPORTED: Allowed = Allowed {
     lines: true,
+    upsert: true,
+    skip_existing: true,
     ..NO_OPTION
 };
 
@@ -165,8 +182,13 @@ const LITERAL: Allowed = Allowed {
     ..NO_OPTION
 };
 
+const DROPS: Allowed = Allowed {
+    drops: true,
+    ..NO_OPTION
+};
+
 /// The commands, in the order of the help.
-pub const TABLE: [Signature; 30] = [
+pub const TABLE: [Signature; 31] = [
     Signature {
         command: Command::Insert,
         name: "insert",
@@ -315,7 +337,7 @@ pub const TABLE: [Signature; 30] = [
         command: Command::Count,
         name: "count",
         arguments: &[Argument::Collection, Argument::Query],
-        options: NO_OPTION,
+        options: PART,
         effect: Effect::Reads,
         place: Place::Both,
         about: "prints how many are selected, or are there",
@@ -333,7 +355,7 @@ pub const TABLE: [Signature; 30] = [
         command: Command::Import,
         name: "import",
         arguments: &[Argument::Collection, Argument::Documents],
-        options: LINES,
+        options: IMPORTED,
         effect: Effect::Makes,
         place: Place::Both,
         about: "puts documents of standard input in, all or none",
@@ -360,7 +382,7 @@ pub const TABLE: [Signature; 30] = [
         command: Command::Rename,
         name: "rename",
         arguments: &[Argument::Collection, Argument::NewName],
-        options: NO_OPTION,
+        options: DROPS,
         effect: Effect::Changes,
         place: Place::Both,
         about: "gives a collection another name",
@@ -400,6 +422,15 @@ pub const TABLE: [Signature; 30] = [
         effect: Effect::Reads,
         place: Place::CommandLine,
         about: "writes all that FILE holds into the new file PATH",
+    },
+    Signature {
+        command: Command::Apply,
+        name: "apply",
+        arguments: &[],
+        options: NO_OPTION,
+        effect: Effect::Makes,
+        place: Place::CommandLine,
+        about: "does all requests of standard input, or none",
     },
     Signature {
         command: Command::Index,

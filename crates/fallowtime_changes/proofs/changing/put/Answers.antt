@@ -5,7 +5,7 @@ use Rattle.store_model.specs.State.{in_bytes}
 use Rattle.store_model.specs.State as model
 use Rattle.bson_store.specs.Calls.{DoesBytes}
 use Rattle.bson_store.specs.Refusals.{as_done, reply_by}
-use Rattle.store_change.specs.Changes.{IsUnfound, LeavesBytes, Turns}
+use Rattle.fallowtime_changes.specs.Changes.{IsUnfound, LeavesBytes, Turns}
 use Rattle.fallowtime_commands.proofs.PutLemmas.{other_kind}
 use Rattle.fallowtime_changes.proofs.WayLemmas.{Done, found_none, insert_leaves, insert_turns, put_leaves, put_turns}
 use Rattle.fallowtime_changes.proofs.changing.put.Goals as goal

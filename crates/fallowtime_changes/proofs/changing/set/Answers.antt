@@ -6,7 +6,7 @@ use Rattle.store_model.specs.State.{get_raw, on}
 use Rattle.store_model.specs.declared.error.StoreError.{StoreError}
 use Rattle.bson_store.specs.Calls.{Does}
 use Rattle.bson_store.specs.Refusals.{as_bytes, reply_by}
-use Rattle.store_change.specs.Changes.{Reads}
+use Rattle.fallowtime_changes.specs.Changes.{Reads}
 use Rattle.fallowtime_changes.proofs.WayLemmas.{set_leaves, set_turns, ungot_leaves, ungot_turns}
 use Rattle.fallowtime_changes.proofs.changing.set.Goals as goal
 

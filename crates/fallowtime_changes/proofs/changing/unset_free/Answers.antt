@@ -3,7 +3,7 @@ use Rattle.store_model.specs.State.{IsFreeKey, on}
 use Rattle.store_model.specs.State as model
 use Rattle.bson_store.specs.Calls.{Does}
 use Rattle.bson_store.specs.Refusals.{as_flag, reply_by}
-use Rattle.store_change.specs.Changes.{LeavesCall, Turns}
+use Rattle.fallowtime_changes.specs.Changes.{LeavesCall, Turns}
 use Rattle.fallowtime_changes.proofs.WayLemmas.{given}
 use Rattle.fallowtime_changes.proofs.changing.unset_free.Goals as goal
 

@@ -1,5 +1,5 @@
 use Rattle.std.proofs.Common.{refl}
-use Rattle.store_lookup.specs.Reads.{Reads}
+use Rattle.store_asked.specs.Reads.{Reads}
 use Rattle.fallowtime_commands.specs.Performing.{Performs}
 use Rattle.fallowtime_commands.proofs.AskLemmas.{differing}
 use Rattle.fallowtime_commands.proofs.LookLemmas.{if_told}

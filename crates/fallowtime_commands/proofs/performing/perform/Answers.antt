@@ -73,17 +73,17 @@ returns-in-FindAndChange-clause-crash g c = rw c.in-FindAndChange.is c.find_and_
 
 pub returns-in-Count-clause-moves : goal.returns-in-Count-clause-moves
 returns-in-Count-clause-moves g c =
-    rw (c.in-Count.is, c.number.ensures.reply) (counted c.args.name.now (form_of c.in-Count.question) (store_state g.S.Store c.args.store.now) (store_state g.S.Store c.count.new.store) c.count.result c.count.ensures.moves)
+    rw (c.in-Count.is, c.number.ensures.reply) (counted c.args.name.now (form_of c.in-Count.question) c.in-Count.part (store_state g.S.Store c.args.store.now) (store_state g.S.Store c.count_part.new.store) c.count_part.result c.count_part.ensures.moves)
 
 pub returns-in-Distinct-clause-moves : goal.returns-in-Distinct-clause-moves
 returns-in-Distinct-clause-moves g c =
     rw (c.in-Distinct.is, c.values.ensures.reply) (differs c.args.name.now (form_of c.in-Distinct.question) c.in-Distinct.path.items c.in-Distinct.counts _ c.as_slice-in-Distinct.ensures.value (store_state g.S.Store c.args.store.now) (store_state g.S.Store c.distinct.new.store) c.distinct.result c.distinct.ensures.moves)
 
 pub returns-in-Import-clause-moves : goal.returns-in-Import-clause-moves
-returns-in-Import-clause-moves g c = rw (c.in-Import.is, c.number-in-Import.ensures.reply) (rw c.as_slice-in-Import.ensures.value at c.import_bytes.ensures.moves)
+returns-in-Import-clause-moves g c = rw c.in-Import.is (rw c.as_slice-in-Import.ensures.value at c.import.ensures.moves)
 
 pub returns-in-Import-clause-crash : goal.returns-in-Import-clause-crash
-returns-in-Import-clause-crash g c = rw (c.in-Import.is, c.number-in-Import.ensures.reply) (rw c.as_slice-in-Import.ensures.value at c.import_bytes.ensures.crash)
+returns-in-Import-clause-crash g c = rw c.in-Import.is (rw c.as_slice-in-Import.ensures.value at c.import.ensures.crash)
 
 pub returns-in-Transfer-clause-moves : goal.returns-in-Transfer-clause-moves
 returns-in-Transfer-clause-moves g c = rw c.in-Transfer.is c.transfer.ensures.moves

@@ -30,10 +30,19 @@ returns-in-Set-clause-asked c = line_of c.args.maker.now c.set_of_line.new.maker
 pub returns-in-Unset-clause-asked : goal.returns-in-Unset-clause-asked
 returns-in-Unset-clause-asked c = line_of c.args.maker.now c.unset_of_line.new.maker c.args.command (items_view c.args.items.now) command.Unset c.unset_of_line.result c.in-Unset.is c.unset_of_line.ensures.asked
 
+pub returns-in-Count-clause-asked : goal.returns-in-Count-clause-asked
+returns-in-Count-clause-asked c = line_of c.args.maker.now c.count_of_line.new.maker c.args.command (items_view c.args.items.now) command.Count c.count_of_line.result c.in-Count.is c.count_of_line.ensures.asked
+
+pub returns-in-Rename-clause-asked : goal.returns-in-Rename-clause-asked
+returns-in-Rename-clause-asked c = line_of c.args.maker.now c.rename_of_line.new.maker c.args.command (items_view c.args.items.now) command.Rename c.rename_of_line.result c.in-Rename.is c.rename_of_line.ensures.asked
+
+pub returns-in-Import-clause-asked : goal.returns-in-Import-clause-asked
+returns-in-Import-clause-asked c = line_of c.args.maker.now c.import_of_line.new.maker c.args.command (items_view c.args.items.now) command.Import c.import_of_line.result c.in-Import.is c.import_of_line.ensures
+
 pub returns-in_default-clause-asked : goal.returns-in_default-clause-asked
 returns-in_default-clause-asked c =
     line_of_other c.args.maker.now c.question_of_items.new.maker (items_view c.args.items.now) c.args.command c.question_of_items.result
-    c.in_default.not-Find c.in_default.not-FindAndUpdate c.in_default.not-FindAndReplace c.in_default.not-FindAndDelete c.in_default.not-Update c.in_default.not-ReplaceOne c.in_default.not-Distinct c.in_default.not-Set c.in_default.not-Unset
+    c.in_default.not-Find c.in_default.not-FindAndUpdate c.in_default.not-FindAndReplace c.in_default.not-FindAndDelete c.in_default.not-Update c.in_default.not-ReplaceOne c.in_default.not-Distinct c.in_default.not-Set c.in_default.not-Unset c.in_default.not-Count c.in_default.not-Rename c.in_default.not-Import
     c.question_of_items.ensures.asked
 
 pub change_of_line-requires-clause-takes : goal.change_of_line-requires-clause-takes

@@ -9,10 +9,10 @@ use Rattle.fallowtime_requests.proofs.reading.find_and_update.Goals as goal
 
 pub returns : goal.returns
 returns c =
-    λ m. asks m m command.FindAndUpdate (map seen c.args.arguments.now) c.plain.result c.in_ok-collection.collection (request.FindAndChange c.in_ok-collection.question c.all_of.result (work.Update c.in_ok-collection.steps)) c.plain.ensures
-    (c.in_ok-collection.ensures m, c.all_of.ensures, refl, refl)
+    asks c.args.maker.now c.args.maker.now command.FindAndUpdate (map seen c.args.arguments.now) c.plain.result c.in_ok-collection.collection (request.FindAndChange c.in_ok-collection.question c.all_of.result (work.Update c.in_ok-collection.steps)) c.plain.ensures
+    (c.in_ok-collection.ensures, c.all_of.ensures, refl, refl)
 
 pub returns-in_err-collection : goal.returns-in_err-collection
 returns-in_err-collection c =
     let p = err_from_is_err_and c.from_residual.result c.from_residual.ensures.1 in
-    rw (p.1, p.2) (λ m. c.in_err-collection.ensures m)
+    rw (p.1, p.2) c.in_err-collection.ensures

@@ -44,7 +44,7 @@ pub returns-in-Unset-clause-maker : goal.returns-in-Unset-clause-maker
 returns-in-Unset-clause-maker c = λ other. stays c.args.maker.now c.unset.result
 
 pub returns-in-Update-clause-asked : goal.returns-in-Update-clause-asked
-returns-in-Update-clause-asked c = by_command c.args.maker.now c.args.command command.Update (map seen c.args.arguments.now) c.update.result c.in-Update.is c.update.ensures
+returns-in-Update-clause-asked c = by_maker c.args.maker.now c.args.maker.now c.args.command command.Update (map seen c.args.arguments.now) c.update.result c.in-Update.is c.update.ensures
 
 pub returns-in-Update-clause-maker : goal.returns-in-Update-clause-maker
 returns-in-Update-clause-maker c = λ other. stays c.args.maker.now c.update.result
@@ -62,7 +62,7 @@ pub returns-in-Delete-clause-maker : goal.returns-in-Delete-clause-maker
 returns-in-Delete-clause-maker c = λ other. stays c.args.maker.now c.delete.result
 
 pub returns-in-FindAndUpdate-clause-asked : goal.returns-in-FindAndUpdate-clause-asked
-returns-in-FindAndUpdate-clause-asked c = by_command c.args.maker.now c.args.command command.FindAndUpdate (map seen c.args.arguments.now) c.find_and_update.result c.in-FindAndUpdate.is c.find_and_update.ensures
+returns-in-FindAndUpdate-clause-asked c = by_maker c.args.maker.now c.args.maker.now c.args.command command.FindAndUpdate (map seen c.args.arguments.now) c.find_and_update.result c.in-FindAndUpdate.is c.find_and_update.ensures
 
 pub returns-in-FindAndUpdate-clause-maker : goal.returns-in-FindAndUpdate-clause-maker
 returns-in-FindAndUpdate-clause-maker c = λ other. stays c.args.maker.now c.find_and_update.result
