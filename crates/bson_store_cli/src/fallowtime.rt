@@ -21,6 +21,8 @@ ghost use Rattle.fallowtime_help.specs.declared.topic.Topic.{Topic as About};
 ghost use Rattle.bson_store_cli.specs.Over.{OpensFor};
 ghost use Rattle.bson_store_cli.specs.Serving.{AnswersLines, AnswersMessages, AnswersRequests, ServesExport, ServesRequest, plainly};
 
+use crate::applying::apply;
+use crate::clock::{SystemClock, maker_of};
 use crate::commands::judged;
 use crate::help;
 use bson_base::write_all;
@@ -35,29 +37,18 @@ use fallowtime_help::{
     Packing, advice_on_document, advice_on_query, field_of, packing_of, topic_of,
 };
 use fallowtime_requests::{Request, Unread, question_of_words};
-use fallowtime_texts::IdMaker;
+use fallowtime_texts::{Clock, IdMaker};
 use fallowtime_wire::database_of;
 use fallowtime_words::{Argument, Command, Task, Words, read_words};
 use json::Scratch;
 use sqlite::{Alter, Connection, FileFrom, Files, Start, Unknown};
 use std::alloc::{AllocError, Global};
-use std::hash::{BuildHasher, RandomState};
 use std::io::IsTerminal;
-use std::time::SystemTime;
 use std::{fs, io};
 use store_writer::Writer;
 
 /// How many seconds to wait for a file that another process has, if the words don't say.
-const PATIENCE: u64 = 5;
-
-/// What makes the ids of this run: the seconds of the clock, and a number that no other run has, except by chance.
-fn maker_of(rt: &HostRuntime) -> io::Result<IdMaker> {
-    let seconds = match SystemTime::now(rt)?.duration_since(SystemTime::UNIX_EPOCH) {
-        Ok(since) => u32::try_from(since.as_secs()).unwrap_or(u32::MAX),
-        Err(_) => 0,
-    };
-    Ok(IdMaker::new(seconds, RandomState::new(rt)?.hash_one(&0u8)))
-}
+pub(crate) const PATIENCE: u64 = 5;
 
 /// Writes all documents of a collection as BSON.
 fn export<S: Alter + Drop, O: Sink>(
@@ -327,7 +318,7 @@ fn do_asked<O: Sink>(
 /// What packed the documents that are imported, if they seem to be packed.
 fn packing_in(asked: &Asked<'_>) -> Option<Packing> {
     match &asked.request {
-        Some(Request::Import(stream)) => packing_of(stream.as_slice()),
+        Some(Request::Import(stream, _)) => packing_of(stream.as_slice()),
         _ => None,
     }
 }
@@ -367,14 +358,18 @@ fn command<I: Source, O: Sink>(
     if words.command == Command::Backup {
         return back_up(rt, words);
     }
+    if words.command == Command::Apply {
+        return apply(rt, words, input, output);
+    }
     let mut maker = maker_of(rt)?;
     ask_and_do(rt, words, &mut maker, input, output, packing)
 }
 
 /// The session of lines over an open store.
-fn answer_lines<S: Alter + Drop, I: Source, O: Sink>(
+fn answer_lines<S: Alter + Drop, C: Clock, I: Source, O: Sink>(
     alloc: Global,
     store: &mut Store<S>,
+    clock: &mut C,
     maker: &mut IdMaker,
     input: &mut I,
     output: &mut O,
@@ -385,17 +380,18 @@ fn answer_lines<S: Alter + Drop, I: Source, O: Sink>(
         (O.tally output.old) (O.tally output.new) result (store_state S.Store store.old)
         (store_state S.Store store.new) }
 {
-    match fallowtime_session::serve(alloc, store, maker, input, output) {
+    match fallowtime_session::serve(alloc, store, clock, maker, input, output) {
         Ok(()) => Ok(()),
         Err(kind) => Err(Ended::Refused(Refusal::from(kind))),
     }
 }
 
 /// The session of MongoDB's messages over an open store.
-fn answer_messages<S: Alter + Drop, I: Source, O: Sink>(
+fn answer_messages<S: Alter + Drop, C: Clock, I: Source, O: Sink>(
     alloc: Global,
     store: &mut Store<S>,
     database: &str,
+    clock: &mut C,
     maker: &IdMaker,
     input: &mut I,
     output: &mut O,
@@ -406,17 +402,18 @@ fn answer_messages<S: Alter + Drop, I: Source, O: Sink>(
         (O.tally output.new) result (store_state S.Store store.old) (store_state S.Store store.new) }
 {
     let mut own = maker.copy();
-    match fallowtime_wire::serve(alloc, store, &mut own, database, input, output) {
+    match fallowtime_wire::serve(alloc, store, clock, &mut own, database, input, output) {
         Ok(()) => Ok(()),
         Err(kind) => Err(Ended::Refused(Refusal::from(kind))),
     }
 }
 
 /// The session over an open store: of lines, or, if a database is named, of messages.
-fn answer<S: Alter + Drop, I: Source, O: Sink>(
+fn answer<S: Alter + Drop, C: Clock, I: Source, O: Sink>(
     alloc: Global,
     store: &mut Store<S>,
     database: Option<&str>,
+    clock: &mut C,
     maker: &mut IdMaker,
     input: &mut I,
     output: &mut O,
@@ -428,16 +425,17 @@ fn answer<S: Alter + Drop, I: Source, O: Sink>(
         (store_state S.Store store.old) (store_state S.Store store.new) }
 {
     match database {
-        None => answer_lines(alloc, store, maker, input, output),
-        Some(database) => answer_messages(alloc, store, database, maker, input, output),
+        None => answer_lines(alloc, store, clock, maker, input, output),
+        Some(database) => answer_messages(alloc, store, database, clock, maker, input, output),
     }
 }
 
 /// The session over a connection, which it gives back. It is over any store, for the reason that `over` is.
-fn answer_over<S: Alter + Drop, I: Source, O: Sink>(
+fn answer_over<S: Alter + Drop, C: Clock, I: Source, O: Sink>(
     alloc: Global,
     connection: Connection<S>,
     database: Option<&str>,
+    clock: &mut C,
     maker: &mut IdMaker,
     input: &mut I,
     output: &mut O,
@@ -453,7 +451,7 @@ fn answer_over<S: Alter + Drop, I: Source, O: Sink>(
 {
     match Store::open(alloc, connection) {
         Ok(mut store) => {
-            let ended = answer(alloc, &mut store, database, maker, input, output);
+            let ended = answer(alloc, &mut store, database, clock, maker, input, output);
             (ended, store.close())
         }
         Err((error, connection)) => (Err(Ended::Refused(Refusal::from(error))), connection),
@@ -486,6 +484,7 @@ fn session<I: Source, O: Sink>(
     if is_bare(file) && is_missing(rt, file) {
         return Err(Ended::File(FileError::NoFile));
     }
+    let mut clock = SystemClock::new(rt)?;
     let mut maker = maker_of(rt)?;
     match open_within(rt, file, seconds) {
         Ok(connection) => {
@@ -493,6 +492,7 @@ fn session<I: Source, O: Sink>(
                 rt.alloc(),
                 connection,
                 database,
+                &mut clock,
                 &mut maker,
                 input,
                 output,

@@ -8,6 +8,8 @@
 ghost use Rattle.std.specs.Prelude.{◌≡◌, ◌⊎◌, Bool};
 ghost use Rattle.terminal_text.specs.Writing.{Begins};
 
+mod applying;
+mod clock;
 mod closed;
 mod commands;
 mod fallowtime;

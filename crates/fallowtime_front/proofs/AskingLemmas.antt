@@ -27,7 +27,7 @@ module _ (w : Wording) (m mid n : IdMaker) where
       → AlongUnless w.options.literal q.request v.request × (v.collection ≡ q.collection) × (v.layout ≡ q.layout)
       → UpsertsByWords mid n w v.request u.request × (u.collection ≡ v.collection) × (u.layout ≡ v.layout)
       → WantsByWords w u.request p.request → p.collection ≡ u.collection
-      → a.collection ≡ p.collection → r ≡ requests.with_counts w.options.counts (requests.with_many w.options.many p.request) → a.request ≡ Some r → a.lines.items ≡ [] → AsksByWords w m n (Ok a)
+      → a.collection ≡ p.collection → r ≡ requests.with_drops w.options.drops (requests.with_counts w.options.counts (requests.with_many w.options.many p.request)) → a.request ≡ Some r → a.lines.items ≡ [] → AsksByWords w m n (Ok a)
   by_question q v u p a r reads along upserts wants same named meant requested lines = (
     mid,
     q.request,

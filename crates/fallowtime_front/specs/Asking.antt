@@ -16,6 +16,8 @@ use Rattle.fallowtime_requests.specs.Reading.{KeepsMaker, Reads}
 use Rattle.fallowtime_requests.specs.Requests as requests
 use Rattle.fallowtime_requests.specs.Upserts.{StopsByWords, UpsertsByWords}
 use Rattle.fallowtime_requests.specs.declared.reading.Layout.{Layout}
+use Rattle.fallowtime_requests.specs.declared.request.Existing.{Existing}
+use Rattle.fallowtime_requests.specs.declared.request.Existing.TheVariants as existing
 use Rattle.fallowtime_requests.specs.declared.request.Request.{Request}
 use Rattle.fallowtime_requests.specs.declared.request.Request.TheVariants as request
 use Rattle.fallowtime_requests.specs.declared.request.Wanted.{Wanted}
@@ -65,21 +67,30 @@ name_of w = first_word (map string_bytes w.arguments.now)
 abbrev pub given_of : Wording → List Given
 given_of w = texts w.arguments.now
 
+-- what the options say becomes of a document whose id is there
+abbrev pub existing_by : Bool → Bool → Existing
+existing_by true skip = existing.Replace
+existing_by false true = existing.Skip
+existing_by false false = existing.Refuse
+
+abbrev pub existing_for : Wording → Existing
+existing_for w = existing_by w.options.upsert w.options.skip_existing
+
 -- the documents of the input as BSON, taken to its end
-abbrev pub AsksForStream : List ℕ → Feed → Feed → Result Asked Ended → Type 0
-AsksForStream name old new (Ok a) = (stream : Vec ℕ Global) × (a.collection.now ≡ name) × (a.request ≡ Some (request.Import stream)) × (a.lines.items ≡ []) × TookAll old new stream.items
-AsksForStream name old new (Err e) = (error : ReadAllError) × (e ≡ refused (kind_of_read error)) × StopsReading error old new
+abbrev pub AsksForStream : List ℕ → Existing → Feed → Feed → Result Asked Ended → Type 0
+AsksForStream name x old new (Ok a) = (stream : Vec ℕ Global) × (a.collection.now ≡ name) × (a.request ≡ Some (request.Import stream x)) × (a.lines.items ≡ []) × TookAll old new stream.items
+AsksForStream name x old new (Err e) = (error : ReadAllError) × (e ≡ refused (kind_of_read error)) × StopsReading error old new
 
 -- the documents of the lines of the input, each with its `_id`, and the line of each
-abbrev pub AsksForLines : List ℕ → Feed → Feed → IdMaker → IdMaker → Result Asked Ended → Type 0
-AsksForLines name old new before after (Ok a) = (taken : Taken) × (a.collection.now ≡ name) × ReadsLines old new before after (Ok taken) × (a.request ≡ Some (request.Import taken.stream)) × (a.lines ≡ taken.lines)
-AsksForLines name old new before after (Err e) = (line : LineStop) × ReadsLines old new before after (Err line) × (e ≡ ended.Lines line)
+abbrev pub AsksForLines : List ℕ → Existing → Feed → Feed → IdMaker → IdMaker → Result Asked Ended → Type 0
+AsksForLines name x old new before after (Ok a) = (taken : Taken) × (a.collection.now ≡ name) × ReadsLines old new before after (Ok taken) × (a.request ≡ Some (request.Import taken.stream x)) × (a.lines ≡ taken.lines)
+AsksForLines name x old new before after (Err e) = (line : LineStop) × ReadsLines old new before after (Err line) × (e ≡ ended.Lines line)
 
 -- under a bad name nothing is read
 abbrev pub AsksToImport : Wording → Feed → Feed → IdMaker → IdMaker → Result Asked Ended → Type 0
 AsksToImport w old new before after result =
     When (IsName (name_of w))
-    (When (w.options.lines ≡ true) (AsksForLines (name_of w) old new before after result) (AsksForStream (name_of w) old new result × (after ≡ before)))
+    (When (w.options.lines ≡ true) (AsksForLines (name_of w) (existing_for w) old new before after result) (AsksForStream (name_of w) (existing_for w) old new result × (after ≡ before)))
     ((result ≡ Err (refused BadName)) × (new ≡ old) × (after ≡ before))
 
 -- what the options want can't be read; or it can, and an argument can't; or a path in the place of a key isn't one; or a change by
@@ -95,7 +106,7 @@ StopsAsking w before after s =
 -- taken
 abbrev pub AsksByWords : Wording → IdMaker → IdMaker → Result Asked Ended → Type 0
 AsksByWords w before after (Ok a) =
-    (mid : IdMaker) × (r p u q : Request) × (l : Layout) × (a.request ≡ Some (requests.with_counts w.options.counts (requests.with_many w.options.many q))) × (a.lines.items ≡ [])
+    (mid : IdMaker) × (r p u q : Request) × (l : Layout) × (a.request ≡ Some (requests.with_drops w.options.drops (requests.with_counts w.options.counts (requests.with_many w.options.many q)))) × (a.lines.items ≡ [])
     × requests.Asks before mid w.command (given_of w) a.collection.now r l × AlongUnless w.options.literal r p × UpsertsByWords mid after w p u × WantsByWords w u q
 AsksByWords w before after (Err e) =
     (e ≡ refused Memory) ⊎ ((s : Stop) × StopsAsking w before after s × (e ≡ ended_of_stop s) × KeepsMaker before after s)

@@ -1,5 +1,5 @@
 -- How a command of `fallowtime` ends, and what is reported of it.
-use Rattle.std.specs.Prelude.{◌≡◌, ◌⊎◌, ℕ, List, [], codes, Option, Some, None, Result, Ok, Err}
+use Rattle.std.specs.Prelude.{◌≡◌, ◌⊎◌, ℕ, List, [], ◌++◌, codes, decimal, Option, Some, None, Result, Ok, Err}
 use Rattle.std.specs.List.{slice_get}
 use Rattle.bson_base.specs.Device.{Tally, TakesText}
 use Rattle.cli_convert.specs.Reports.{Reports, memory_line}
@@ -10,6 +10,8 @@ use Rattle.fallowtime_commands.specs.Reports.{name_of, refusal_text}
 use Rattle.fallowtime_commands.specs.declared.refusal.Refusal.{Refusal}
 use Rattle.fallowtime_requests.specs.Reports.{unread_text}
 use Rattle.fallowtime_requests.specs.declared.unread.Unread.TheVariants as unread
+use Rattle.fallowtime_session.specs.Places.{place_text}
+use Rattle.fallowtime_session.specs.declared.places.Place.{Place}
 use Rattle.store_model.specs.declared.error.ErrorKind.{ErrorKind}
 use Rattle.store_model.specs.declared.error.ErrorKind.TheVariants.{BadLength, TooLong}
 use Rattle.fallowtime_front.specs.declared.ending.Ended.{Ended}
@@ -28,6 +30,7 @@ name_of_kind (ended.Words unread.Fields) = codes "fields"
 name_of_kind (ended.Words _) = codes "usage"
 name_of_kind (ended.Lines (stop.Line n fault)) = codes "line"
 name_of_kind (ended.Lines _) = []
+name_of_kind (ended.Line n place) = codes "line"
 name_of_kind (ended.Refused r) = name_of r
 name_of_kind (ended.File error) = []
 
@@ -51,6 +54,10 @@ abbrev pub ended_by : List ℕ → Result (Unit {0}) Refusal → Result (Unit {0
 ended_by lines (Ok x) = Ok x
 ended_by lines (Err r) = Err (ended.Refused (placed (place_of lines r.error.document) r))
 
+-- the line for one of the input that is no request
+abbrev pub request_text : ℕ → Place → List ℕ
+request_text n place = codes "words: line " ++ decimal n ++ codes " " ++ place_text place ++ codes "\n"
+
 -- the line was written, or the one for out of memory, or a prefix of either
 abbrev pub TellsLine : List ℕ → Tally → Tally → Type 0
 TellsLine text before after = TakesText before after text ⊎ TakesText before after memory_line
@@ -59,5 +66,6 @@ TellsLine text before after = TakesText before after text ⊎ TakesText before a
 abbrev pub TellsEnd : Ended → Tally → Tally → ℕ → Type 0
 TellsEnd (ended.Words u) before after status = (status ≡ 2) × TellsLine (unread_text u) before after
 TellsEnd (ended.Lines stop) before after status = Reports (Err stop) before after status
+TellsEnd (ended.Line n place) before after status = (status ≡ 2) × TellsLine (request_text n place) before after
 TellsEnd (ended.Refused r) before after status = (status ≡ 1) × TellsLine (refusal_text r) before after
 TellsEnd (ended.File error) before after status = (status ≡ 1) × TakesText before after (line (fault_line error))

@@ -2,7 +2,7 @@
 
 ghost use Rattle.std.specs.Prelude.{◌≡◌, ◌≢◌, [], map, string_bytes};
 ghost use Rattle.bson_base.specs.Device.{CanFail};
-ghost use Rattle.fallowtime_front.specs.Asking.{Asks, AsksByWords, AsksForLines, AsksForStream, AsksToImport, first_word, form_by};
+ghost use Rattle.fallowtime_front.specs.Asking.{Asks, AsksByWords, AsksForLines, AsksForStream, AsksToImport, existing_by, first_word, form_by};
 ghost use Rattle.fallowtime_words.specs.declared.command.Command.TheVariants.{Import};
 
 use crate::ending::Ended;
@@ -10,7 +10,8 @@ use bson_base::{ReadAllError, Source, read_all};
 use bson_model::extjson::Mode;
 use fallowtime_commands::{Form, Refusal};
 use fallowtime_requests::{
-    Question, Request, along_path, question_of_words, upsert_by_words, want, wanted_of_words,
+    Existing, Question, Request, along_path, question_of_words, upsert_by_words, want,
+    wanted_of_words,
 };
 use fallowtime_texts::{IdMaker, read_lines};
 use fallowtime_words::{Argument, Command, Options, Words};
@@ -66,21 +67,35 @@ fn without_lines<'w>(alloc: Global, collection: &'w str, request: Option<Request
     }
 }
 
+/// What becomes of a document that is imported if its `_id` is there.
+fn existing_of(options: &Options) -> Existing
+    ensures { result ≡ existing_by options.now.upsert options.now.skip_existing }
+{
+    if options.upsert {
+        Existing::Replace
+    } else if options.skip_existing {
+        Existing::Skip
+    } else {
+        Existing::Refuse
+    }
+}
+
 /// The documents of the input as lines of Extended JSON.
 fn import_of_lines<'w, I: Source>(
     alloc: Global,
     collection: &'w str,
+    existing: Existing,
     maker: &mut IdMaker,
     input: &mut I,
 ) -> Result<Asked<'w>, Ended>
     requires { CanFail (I.feed input.old) }
-    ensures { AsksForLines collection.now (I.feed input.old) (I.feed input.new) maker.old maker.new
+    ensures { AsksForLines collection.now existing (I.feed input.old) (I.feed input.new) maker.old maker.new
         result }
 {
     match read_lines(alloc, input, maker) {
         Ok(taken) => Ok(Asked {
             collection,
-            request: Some(Request::Import(taken.stream)),
+            request: Some(Request::Import(taken.stream, existing)),
             lines: taken.lines,
         }),
         Err(stop) => Err(Ended::Lines(stop)),
@@ -91,13 +106,17 @@ fn import_of_lines<'w, I: Source>(
 fn import_of_stream<'w, I: Source>(
     alloc: Global,
     collection: &'w str,
+    existing: Existing,
     input: &mut I,
 ) -> Result<Asked<'w>, Ended>
     requires { CanFail (I.feed input.old) }
-    ensures { AsksForStream collection.now (I.feed input.old) (I.feed input.new) result }
+    ensures { AsksForStream collection.now existing (I.feed input.old) (I.feed input.new) result }
 {
     match read_all(alloc, input) {
-        Ok(stream) => Ok(without_lines(alloc, collection, Some(Request::Import(stream)))),
+        Ok(stream) => {
+            let request = Request::Import(stream, existing);
+            Ok(without_lines(alloc, collection, Some(request)))
+        }
         Err(ReadAllError::Reader) => Err(Ended::Refused(Refusal::from(ErrorKind::Reader))),
         Err(ReadAllError::Memory) => Err(Ended::Refused(Refusal::from(ErrorKind::Memory))),
     }
@@ -118,10 +137,11 @@ fn import_of<'w, I: Source>(
     if Name::new(collection).is_none() {
         return Err(Ended::Refused(Refusal::from(ErrorKind::BadName)));
     }
+    let existing = existing_of(&words.options);
     if words.options.lines {
-        import_of_lines(alloc, collection, maker, input)
+        import_of_lines(alloc, collection, existing, maker, input)
     } else {
-        import_of_stream(alloc, collection, input)
+        import_of_stream(alloc, collection, existing, input)
     }
 }
 
@@ -144,7 +164,8 @@ fn ask_by_words<'w>(
     let request = question
         .request
         .with_many(options.many)
-        .with_counts(options.counts);
+        .with_counts(options.counts)
+        .with_drops(options.drops);
     Ok(without_lines(alloc, question.collection, Some(request)))
 }
 

@@ -3,14 +3,16 @@
 ghost use Rattle.std.specs.Prelude.{◌≡◌, IfOk, OnErr, string_bytes};
 ghost use Rattle.bson_base.specs.Device.{CanRefuse, TakesText};
 ghost use Rattle.cli_convert.specs.Reports.{memory_line};
-ghost use Rattle.fallowtime_front.specs.Ending.{TellsEnd, ended_by, kind_of_line as line_kind, place_of as line_of};
+ghost use Rattle.fallowtime_front.specs.Ending.{TellsEnd, ended_by, kind_of_line as line_kind, place_of as line_of, request_text};
 
 use bson_base::{Sink, write_all};
 use cli_convert::{Stop as LineStop, report_end};
 use cli_files::{FileError, report_file};
 use fallowtime_commands::Refusal;
 use fallowtime_requests::{Stop, Unread};
-use std::alloc::AllocError;
+use fallowtime_session::Place;
+use itoa::Buffer;
+use std::alloc::{AllocError, Global};
 use std::io;
 use store_model::ErrorKind;
 
@@ -21,6 +23,8 @@ pub enum Ended {
     Words(Unread),
     /// The lines of the input can't be read.
     Lines(LineStop),
+    /// The line with this number, counted from 1, is no request, or none that a list has, as is seen at this place.
+    Line(u64, Place),
     /// The store or a device refused, or it is out of memory.
     Refused(Refusal),
     /// The file can't be used.
@@ -61,7 +65,7 @@ impl Ended {
             Ended::Words(Unread::Options) => "options",
             Ended::Words(Unread::Fields) => "fields",
             Ended::Words(_) => "usage",
-            Ended::Lines(LineStop::Line(_, _)) => "line",
+            Ended::Lines(LineStop::Line(_, _)) | Ended::Line(_, _) => "line",
             Ended::Refused(refusal) => refusal.name(),
             Ended::Lines(_) | Ended::File(_) => "",
         }
@@ -141,6 +145,34 @@ fn tell_line<F: Sink>(faults: &mut F, line: Result<String, AllocError>)
     }
 }
 
+/// The line that reports a line of the input that is no request.
+fn line_at(alloc: Global, number: u64, place: &Place) -> Result<String, AllocError>
+    ensures { IfOk result (λ line. string_bytes line ≡ request_text number place.now) }
+{
+    let text = place.text(alloc)?;
+    let mut digits = Buffer::new();
+    let mut line = String::from_str(alloc, "words: line ")?;
+    line.push_str(digits.format(number))?;
+    line.push_str(" ")?;
+    line.push_str(text.as_str())?;
+    line.push_str("\n")?;
+    Ok(line)
+}
+
+/// Lets a place go.
+fn discard(place: Place) {
+    drop(place);
+}
+
+/// The same of a place that goes with it.
+fn line_of_place(alloc: Global, number: u64, place: Place) -> Result<String, AllocError>
+    ensures { IfOk result (λ line. string_bytes line ≡ request_text number place) }
+{
+    let line = line_at(alloc, number, &place);
+    discard(place);
+    line
+}
+
 /// Reports why the program ends by a line, and returns its status. If there is no memory for that line, it is
 /// `refused: Memory`. A write that fails is ignored.
 pub fn tell<F: Sink>(rt: &HostRuntime, faults: &mut F, ended: Ended) -> u8
@@ -153,6 +185,10 @@ pub fn tell<F: Sink>(rt: &HostRuntime, faults: &mut F, ended: Ended) -> u8
             2
         }
         Ended::Lines(stop) => report_end(rt.alloc(), Err(stop), faults),
+        Ended::Line(number, place) => {
+            tell_line(faults, line_of_place(rt.alloc(), number, place));
+            2
+        }
         Ended::Refused(refusal) => {
             tell_line(faults, refusal.line(rt.alloc()));
             1

@@ -7,3 +7,7 @@ pub mod WriteLemmas
 pub mod ValueLemmas
 pub mod TreeLemmas
 pub mod ReplyLemmas
+pub mod ListLemmas
+pub mod ListAnswerLemmas
+pub mod JoinLemmas
+pub mod ListLineLemmas

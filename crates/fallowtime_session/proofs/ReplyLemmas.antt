@@ -8,8 +8,8 @@ use Rattle.cli_lines.specs.declared.line.Kept.TheVariants.{Memory, TooLong, Whol
 use Rattle.cli_lines.specs.declared.line.Line.{Line}
 use Rattle.fallowtime_texts.specs.declared.made.IdMaker.{IdMaker}
 use Rattle.fallowtime_session.specs.Answers.{line_of, memory}
-use Rattle.fallowtime_session.specs.Deeds.{DoesOne}
-use Rattle.fallowtime_session.specs.Turns.{AnswersLine, Comes, IsEmptyLine, IsOf, IsOfBytes, Outcome, empty, too_long, no_tree, no_question, done, no_memory}
+use Rattle.fallowtime_session.specs.Acts.{DoesOne}
+use Rattle.fallowtime_session.specs.Turns.{AnswersLine, Comes, IsEmptyLine, IsOf, IsOfBytes, Outcome, empty, too_long, no_tree, no_question, no_list, done, done_all, no_memory}
 use Rattle.fallowtime_session.proofs.AnswerLemmas.{idle, so}
 
 -- a line with a byte has one, whatever is kept of it
@@ -35,7 +35,7 @@ some_text l text some room keeps none = by l.kept refl keeps
 
 pub line_answered : (s t : State) (m n : IdMaker) (l : Line) (text line : List ℕ) → ((l.kept ≡ Whole) × IsEmptyLine l.bytes.items → ⊥) → (l.kept ≡ Memory → ⊥) → Keeps l text
     → DoesOne (Comes (IsOfBytes m n text) line) s t → DoesOne (AnswersLine m n text line) s t
-line_answered s t m n l text line some room keeps h = so s t (Comes (IsOfBytes m n text) line) (AnswersLine m n text line) (λ deed (o, is, writes, e). (o, by o is, writes, e)) h
+line_answered s t m n l text line some room keeps h = so s t (Comes (IsOfBytes m n text) line) (AnswersLine m n text line) (λ act (o, is, writes, e). (o, by o is, writes, e)) h
   where
     has : ¬ IsEmptyLine text
     has = some_text l text some room keeps
@@ -45,7 +45,9 @@ line_answered s t m n l text line some room keeps h = so s t (Comes (IsOfBytes m
     by too_long is = (has, is)
     by (no_tree id place) is = (has, is)
     by (no_question id place) is = (has, is)
+    by (no_list id i place) is = (has, is)
     by (done id layout d) is = (has, is)
+    by (done_all id qs r) is = (has, is)
     by (no_memory None) is = (some_byte l text some keeps, is)
     by (no_memory (Some i)) is = (has, is)
 

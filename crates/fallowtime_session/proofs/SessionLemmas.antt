@@ -24,8 +24,11 @@ use Rattle.store_model.specs.declared.error.ErrorKind.{ErrorKind}
 use Rattle.store_model.specs.declared.error.ErrorKind.TheVariants.{Reader, Writer}
 use Rattle.fallowtime_commands.proofs.CrashLemmas.{left_by_request, more_by_request}
 use Rattle.fallowtime_commands.specs.Performing.{reply_of}
+use Rattle.fallowtime_lists.proofs.CrashLemmas.{more_by_all}
+use Rattle.fallowtime_texts.specs.Made.{at_time}
 use Rattle.fallowtime_texts.specs.declared.made.IdMaker.{IdMaker}
-use Rattle.fallowtime_session.specs.Deeds.{Changes, Deed, Did, DoesOne, IsOpenFor, LeavesDeed, LeftByDeed, WasOpenFor}
+use Rattle.fallowtime_session.specs.Acts.{Act, Acted, ChangesBy, DoesOne, IsOpenAfter, LeavesAct, LeftByAct, WasOpenBy, list, single}
+use Rattle.fallowtime_session.specs.Deeds.{IsOpenFor, LeavesDeed, LeftByDeed, WasOpenFor, Deed}
 use Rattle.fallowtime_session.specs.Leaving.{IsOpenAlong, LeavesTurns, LeftAlong}
 use Rattle.fallowtime_session.specs.Sessions.{Turn, lines_of, answers_of, Holds, ReadsSome, WritesAll, Sends, Ends}
 use Rattle.fallowtime_session.specs.Turns.{AnswersLine}
@@ -34,17 +37,17 @@ use Rattle.fallowtime_session.specs.Turns.{AnswersLine}
 
 -- The lines are answered with one more, and what is left of that one after them is left along them all. Before may
 -- speak of the tables beside.
-goes_on : (Before : Database → Trees → Type 0) (ts : List Turn) (t : Turn) (m mid n : IdMaker) (docs d after : List TableRow) (h : Holds m mid ts docs d) → AnswersLine mid n t.text t.answer t.deed → Changes t.deed d after
-    → (more : Holds m n (ts ++ t ∷ []) docs after) × ((base : Database) (db : Trees) → LeftByDeed base (LeftAlong base (Before base) m mid ts docs d h) d t.deed db → LeftAlong base (Before base) m n (ts ++ t ∷ []) docs after more db)
+goes_on : (Before : Database → Trees → Type 0) (ts : List Turn) (t : Turn) (m mid n : IdMaker) (docs d after : List TableRow) (h : Holds m mid ts docs d) → AnswersLine (at_time t.time mid) n t.text t.answer t.act → ChangesBy t.act d after
+    → (more : Holds m n (ts ++ t ∷ []) docs after) × ((base : Database) (db : Trees) → LeftByAct base (LeftAlong base (Before base) m mid ts docs d h) d t.act db → LeftAlong base (Before base) m n (ts ++ t ∷ []) docs after more db)
 goes_on Before [] t m mid n docs d after (same, rows) answers changes = (
-  (n, after, subst (λ x. AnswersLine x n t.text t.answer t.deed) same answers, subst (λ x. Changes t.deed x after) rows changes, (refl, refl)),
-  λ base db h. subst (λ x. LeftByDeed base (Before base) x t.deed db) rows h,
+  (n, after, subst (λ x. AnswersLine (at_time t.time x) n t.text t.answer t.act) same answers, subst (λ x. ChangesBy t.act x after) rows changes, (refl, refl)),
+  λ base db h. subst (λ x. LeftByAct base (Before base) x t.act db) rows h,
 )
 goes_on Before (s ∷ ts) t m mid n docs d after (next, row, a, c, h) answers changes =
-    let rest = goes_on (λ base. LeftByDeed base (Before base) docs s.deed) ts t next mid n row d after h answers changes in
+    let rest = goes_on (λ base. LeftByAct base (Before base) docs s.act) ts t next mid n row d after h answers changes in
     ((next, row, a, c, rest.0), rest.1)
 
-opens_on : (ts : List Turn) (t : Turn) (x y z : Bool) → IsOpenAlong x ts y → (IsTrue z → IsTrue y) → IsOpenFor t.deed z → IsOpenAlong x (ts ++ t ∷ []) z
+opens_on : (ts : List Turn) (t : Turn) (x y z : Bool) → IsOpenAlong x ts y → (IsTrue z → IsTrue y) → IsOpenAfter t.act z → IsOpenAlong x (ts ++ t ∷ []) z
 opens_on [] t x y z same was own = (z, (λ up. subst IsTrue same (was up)), own, refl)
 opens_on (s ∷ ts) t x y z (mid, first, accepted, rest) was own = (mid, first, accepted, opens_on ts t mid y z rest was own)
 
@@ -57,6 +60,16 @@ left_by_deed : (deed : Option Deed) (t u : State) → LeavesDeed deed t u → Ha
 left_by_deed None t u h clean base beside docs stands Before was db may = elim (h.crash clean db may) [ inl mid ↦ was db mid | inr none ↦ absurd none ]
 left_by_deed (Some d) t u h clean base beside docs stands Before was db may = λ a shown.
     more_by_request base t.may_leave Before was d.name a db d.request (reply_of d.outcome) (left_by_request t u clean base docs beside stands a shown db may d.name d.request (reply_of d.outcome) h)
+
+-- so of what a line did
+open_after : (act : Act) (t u : State) → WasOpenBy act t u → HasCleanDisk u → (docs : List TableRow) → Stands t docs → IsOpenAfter act u.is_open
+open_after (single deed) t u stays clean docs stands = open_for deed t u stays clean docs stands
+open_after (list qs r) t u stays clean docs stands = on_ok_weaker r (λ both. both.1) (stays clean docs stands)
+
+left_by_act : (act : Act) (t u : State) → LeavesAct act t u → HasCleanDisk u → (base : Database) → ShowsOthers base t → (docs : List TableRow) → Stands t docs → (Before : Trees → Type 0) → ((db : Trees) → t.may_leave db → Before db)
+    → (db : Trees) → u.may_leave db → LeftByAct base Before docs act db
+left_by_act (single deed) t u h clean base beside docs stands Before was db may = left_by_deed deed t u h clean base beside docs stands Before was db may
+left_by_act (list qs r) t u h clean base beside docs stands Before was db may = λ a shown. more_by_all base t.may_leave Before was a qs r db (h clean base docs beside stands a shown db may)
 
 lines_of-snoc : (ts : List Turn) (t : Turn) → lines_of (ts ++ t ∷ []) ≡ lines_of ts ++ (t.text ++ 10 ∷ [])
 lines_of-snoc [] t = refl
@@ -96,8 +109,8 @@ module _ (s : State) (m : IdMaker) (fed : Feed) (old : Tally) where
     counts = refl;
   }
 
-  abbrev next_turn : (text answer : List ℕ) → Option Deed → IsUnbroken text → Turn
-  next_turn text answer deed unbroken = record { text = text; answer = answer; deed = deed; unbroken = unbroken }
+  abbrev next_turn : (text : List ℕ) → ℕ → (answer : List ℕ) → Act → IsUnbroken text → Turn
+  next_turn text time answer act unbroken = record { text = text; time = time; answer = answer; act = act; unbroken = unbroken }
 
   -- what was read, with a line more
   more_read : (ts : List Turn) (t : Turn) (bytes given waits now : List ℕ) → bytes ≡ lines_of ts ++ waits → waits ++ given ≡ t.text ++ now → bytes ++ given ≡ lines_of ts ++ (t.text ++ now)
@@ -111,7 +124,7 @@ module _ (s : State) (m : IdMaker) (fed : Feed) (old : Tally) where
   last_line : (ts : List Turn) (t : Turn) (bytes : List ℕ) → bytes ≡ lines_of ts ++ t.text → bytes ++ 10 ∷ [] ≡ lines_of (ts ++ t ∷ [])
   last_line ts t bytes e = ap (λ bs. bs ++ 10 ∷ []) e ∙ append_assoc (lines_of ts) t.text (10 ∷ []) ∙ sym (lines_of-snoc ts t)
 
-  more_held : (t u : State) (n k : IdMaker) (ts : List Turn) (x : Turn) → Moves s t (LeavesTurns m n ts s t) → AnswersLine n k x.text x.answer x.deed → Did x.deed t u → Moves s u (LeavesTurns m k (ts ++ x ∷ []) s u)
+  more_held : (t u : State) (n k : IdMaker) (ts : List Turn) (x : Turn) → Moves s t (LeavesTurns m n ts s t) → AnswersLine (at_time x.time n) k x.text x.answer x.act → Acted x.act t u → Moves s u (LeavesTurns m k (ts ++ x ∷ []) s u)
   more_held t u n k ts x moves answers did clean =
       let b = did.moves clean in
       let a = moves b.0 in (
@@ -124,9 +137,9 @@ module _ (s : State) (m : IdMaker) (fed : Feed) (old : Tally) where
               z.1,
               record {
                 holds = more.0;
-                opens = opens_on ts x s.is_open t.is_open u.is_open y.2.opens z.3.was_open (open_for x.deed t u did.stays clean y.0 y.1);
+                opens = opens_on ts x s.is_open t.is_open u.is_open y.2.opens z.3.was_open (open_after x.act t u did.stays clean y.0 y.1);
                 left = λ base beside db may.
-                    more.1 base db (left_by_deed x.deed t u did.crash clean base (shows_then base s t beside y.3) y.0 y.1 (LeftAlong base s.may_leave m n ts docs y.0 y.2.holds) (y.2.left base beside) db may);
+                    more.1 base db (left_by_act x.act t u did.crash clean base (shows_then base s t beside y.3) y.0 y.1 (LeftAlong base s.may_leave m n ts docs y.0 y.2.holds) (y.2.left base beside) db may);
               },
               others_then s t u y.3 z.3,
             ),
@@ -139,12 +152,12 @@ module _ (s : State) (m : IdMaker) (fed : Feed) (old : Tally) where
   -- ---- one line more
 
   -- the line was read whole, and answered
-  went_on : (t u : State) (n k : IdMaker) (mid left : Feed) (before new : Tally) (waits now : List ℕ) (line : Line) (number : ℕ) (given answer : List ℕ) → SoFar s t m n fed mid old before waits number → left.failures ≡ mid.failures
-      → Gives mid.supply left.supply given → Reads Whole (waits ++ given) now left.supply line → Sends (Ok tt) answer before new → ((text : List ℕ) → Keeps line text → DoesOne (AnswersLine n k text answer) t u)
+  went_on : (t u : State) (n k : IdMaker) (mid left : Feed) (before new : Tally) (waits now : List ℕ) (line : Line) (number : ℕ) (given : List ℕ) (time : ℕ) (answer : List ℕ) → SoFar s t m n fed mid old before waits number → left.failures ≡ mid.failures
+      → Gives mid.supply left.supply given → Reads Whole (waits ++ given) now left.supply line → Sends (Ok tt) answer before new → ((text : List ℕ) → Keeps line text → DoesOne (AnswersLine (at_time time n) k text answer) t u)
       → SoFar s u m k fed left old new now (number + 1)
-  went_on t u n k mid left before new waits now line number given answer so fine gives (text, unbroken, keeps, whole) sends moves =
+  went_on t u n k mid left before new waits now line number given time answer so fine gives (text, unbroken, keeps, whole) sends moves =
       let d = moves text keeps in
-      let x = next_turn text answer d.0 unbroken in record {
+      let x = next_turn text time answer d.0 unbroken in record {
         turns = so.turns ++ x ∷ [];
         bytes = so.bytes ++ given;
         fine = fine ∙ so.fine;
@@ -172,12 +185,12 @@ module _ (s : State) (m : IdMaker) (fed : Feed) (old : Tally) where
       (so.turns, ((so.bytes ++ given, fine ∙ so.fine, Gives-trans fed.supply mid.supply left.supply so.bytes given so.gives gives, exhausted, inl all), so.writes), so.moves)
 
   -- it ends with a line
-  ends_with : (t u : State) (n k : IdMaker) (mid left : Feed) (before new : Tally) (waits now : List ℕ) (line : Line) (number : ℕ) (given answer : List ℕ) → SoFar s t m n fed mid old before waits number → left.failures ≡ mid.failures
-      → Gives mid.supply left.supply given → Reads Last (waits ++ given) now left.supply line → Sends (Ok tt) answer before new → ((text : List ℕ) → Keeps line text → DoesOne (AnswersLine n k text answer) t u)
+  ends_with : (t u : State) (n k : IdMaker) (mid left : Feed) (before new : Tally) (waits now : List ℕ) (line : Line) (number : ℕ) (given : List ℕ) (time : ℕ) (answer : List ℕ) → SoFar s t m n fed mid old before waits number → left.failures ≡ mid.failures
+      → Gives mid.supply left.supply given → Reads Last (waits ++ given) now left.supply line → Sends (Ok tt) answer before new → ((text : List ℕ) → Keeps line text → DoesOne (AnswersLine (at_time time n) k text answer) t u)
       → Session (Ok tt) u k left new
-  ends_with t u n k mid left before new waits now line number given answer so fine gives (text, unbroken, keeps, whole, some, none, exhausted) sends moves =
+  ends_with t u n k mid left before new waits now line number given time answer so fine gives (text, unbroken, keeps, whole, some, none, exhausted) sends moves =
       let d = moves text keeps in
-      let x = next_turn text answer d.0 unbroken in
+      let x = next_turn text time answer d.0 unbroken in
       let all : so.bytes ++ given ≡ lines_of so.turns ++ text = ap (λ bs. bs ++ given) so.whole ∙ append_assoc (lines_of so.turns) waits given ∙ ap (λ bs. lines_of so.turns ++ bs) whole in (
         so.turns ++ x ∷ [],
         ((so.bytes ++ given, fine ∙ so.fine, Gives-trans fed.supply mid.supply left.supply so.bytes given so.gives gives, exhausted, inr (last_line so.turns x (so.bytes ++ given) all)), written before new so.turns x so.writes sends),
@@ -190,22 +203,22 @@ module _ (s : State) (m : IdMaker) (fed : Feed) (old : Tally) where
   unsent Writer t u n k left before new ts x reads writes sends moves = (ts ++ x ∷ [], (reads, (ts, x, refl, (before, writes, sends))), moves)
   unsent _ t u n k left before new ts x reads writes sends moves = absurd sends
 
-  cannot_write : (e : ErrorKind) (t u : State) (n k : IdMaker) (mid left : Feed) (before new : Tally) (waits now : List ℕ) (line : Line) (number : ℕ) (given answer : List ℕ) → SoFar s t m n fed mid old before waits number → left.failures ≡ mid.failures
-      → Gives mid.supply left.supply given → Reads Whole (waits ++ given) now left.supply line → Sends (Err e) answer before new → ((text : List ℕ) → Keeps line text → DoesOne (AnswersLine n k text answer) t u) → Session (Err e) u k left new
-  cannot_write e t u n k mid left before new waits now line number given answer so fine gives (text, unbroken, keeps, whole) sends moves =
+  cannot_write : (e : ErrorKind) (t u : State) (n k : IdMaker) (mid left : Feed) (before new : Tally) (waits now : List ℕ) (line : Line) (number : ℕ) (given : List ℕ) (time : ℕ) (answer : List ℕ) → SoFar s t m n fed mid old before waits number → left.failures ≡ mid.failures
+      → Gives mid.supply left.supply given → Reads Whole (waits ++ given) now left.supply line → Sends (Err e) answer before new → ((text : List ℕ) → Keeps line text → DoesOne (AnswersLine (at_time time n) k text answer) t u) → Session (Err e) u k left new
+  cannot_write e t u n k mid left before new waits now line number given time answer so fine gives (text, unbroken, keeps, whole) sends moves =
       let d = moves text keeps in
-      let x = next_turn text answer d.0 unbroken in
+      let x = next_turn text time answer d.0 unbroken in
       let all : so.bytes ++ given ≡ lines_of (so.turns ++ x ∷ []) ++ now = more_read so.turns x so.bytes given waits (10 ∷ now) so.whole whole ∙ whole_line so.turns x now in
       let reads : ReadsSome (so.turns ++ x ∷ []) fed left = (so.bytes ++ given, now, fine ∙ so.fine, Gives-trans fed.supply mid.supply left.supply so.bytes given so.gives gives, inl all) in
       unsent e t u n k left before new so.turns x reads so.writes sends (more_held t u n k so.turns x so.moves d.1 d.2)
 
   -- the last line is answered, or its answer isn't written
-  last_answered : (r : Result (Unit {0}) ErrorKind) (t u : State) (n k : IdMaker) (mid left : Feed) (before new : Tally) (waits now : List ℕ) (line : Line) (number : ℕ) (given answer : List ℕ) → SoFar s t m n fed mid old before waits number
-      → left.failures ≡ mid.failures → Gives mid.supply left.supply given → Reads Last (waits ++ given) now left.supply line → Sends r answer before new → ((text : List ℕ) → Keeps line text → DoesOne (AnswersLine n k text answer) t u) → Session r u k left new
-  last_answered (Ok x) t u n k mid left before new waits now line number given answer so fine gives read sends moves = ends_with t u n k mid left before new waits now line number given answer so fine gives read sends moves
-  last_answered (Err e) t u n k mid left before new waits now line number given answer so fine gives (text, unbroken, keeps, whole, some, none, exhausted) sends moves =
+  last_answered : (r : Result (Unit {0}) ErrorKind) (t u : State) (n k : IdMaker) (mid left : Feed) (before new : Tally) (waits now : List ℕ) (line : Line) (number : ℕ) (given : List ℕ) (time : ℕ) (answer : List ℕ) → SoFar s t m n fed mid old before waits number
+      → left.failures ≡ mid.failures → Gives mid.supply left.supply given → Reads Last (waits ++ given) now left.supply line → Sends r answer before new → ((text : List ℕ) → Keeps line text → DoesOne (AnswersLine (at_time time n) k text answer) t u) → Session r u k left new
+  last_answered (Ok x) t u n k mid left before new waits now line number given time answer so fine gives read sends moves = ends_with t u n k mid left before new waits now line number given time answer so fine gives read sends moves
+  last_answered (Err e) t u n k mid left before new waits now line number given time answer so fine gives (text, unbroken, keeps, whole, some, none, exhausted) sends moves =
       let d = moves text keeps in
-      let x = next_turn text answer d.0 unbroken in
+      let x = next_turn text time answer d.0 unbroken in
       let all : so.bytes ++ given ≡ lines_of so.turns ++ text = ap (λ bs. bs ++ given) so.whole ∙ append_assoc (lines_of so.turns) waits given ∙ ap (λ bs. lines_of so.turns ++ bs) whole in
       let reads : ReadsSome (so.turns ++ x ∷ []) fed left =
       (so.bytes ++ given, now, fine ∙ so.fine, Gives-trans fed.supply mid.supply left.supply so.bytes given so.gives gives, inr (last_line so.turns x (so.bytes ++ given) all, exhausted)) in
@@ -233,24 +246,24 @@ module _ (s : State) (m : IdMaker) (fed : Feed) (old : Tally) where
   -- ---- as the loop knows them
 
   abbrev Replied : State → State → IdMaker → IdMaker → Result (Unit {0}) ErrorKind → Line → Tally → Tally → Type 0
-  Replied t u n k r line before new = (answer : List ℕ) × Sends r answer before new × ((text : List ℕ) → Keeps line text → DoesOne (AnswersLine n k text answer) t u)
+  Replied t u n k r line before new = (time : ℕ) × (answer : List ℕ) × Sends r answer before new × ((text : List ℕ) → Keeps line text → DoesOne (AnswersLine (at_time time n) k text answer) t u)
 
   abbrev ReadSo : Next → Lines → Lines → Feed → Feed → Line → Type 0
   ReadSo next from to mid left line = ReadsNext (Ok next) from to mid left line
 
   pub on_whole : (t u : State) (n k : IdMaker) (mid left : Feed) (before new : Tally) (from to : Lines) (next : Next) (line : Line) (number : ℕ) → next ≡ Whole → SoFar s t m n fed mid old before (waiting from) number → ReadSo next from to mid left line
       → Replied t u n k (Ok tt) line before new → SoFar s u m k fed left old new (waiting to) (number + 1)
-  on_whole t u n k mid left before new from to next line number is so read (answer, sends, moves) = by (subst (λ n. ReadSo n from to mid left line) is read)
+  on_whole t u n k mid left before new from to next line number is so read (time, answer, sends, moves) = by (subst (λ n. ReadSo n from to mid left line) is read)
     where
       by : ReadSo Whole from to mid left line → SoFar s u m k fed left old new (waiting to) (number + 1)
-      by (fine, (given, gives, reads)) = went_on t u n k mid left before new (waiting from) (waiting to) line number given answer so fine gives reads sends moves
+      by (fine, (given, gives, reads)) = went_on t u n k mid left before new (waiting from) (waiting to) line number given time answer so fine gives reads sends moves
 
   pub on_last : (r : Result (Unit {0}) ErrorKind) (t u : State) (n k : IdMaker) (mid left : Feed) (before new : Tally) (from to : Lines) (next : Next) (line : Line) (number : ℕ) → next ≡ Last → SoFar s t m n fed mid old before (waiting from) number
       → ReadSo next from to mid left line → Replied t u n k r line before new → Session r u k left new
-  on_last r t u n k mid left before new from to next line number is so read (answer, sends, moves) = by (subst (λ n. ReadSo n from to mid left line) is read)
+  on_last r t u n k mid left before new from to next line number is so read (time, answer, sends, moves) = by (subst (λ n. ReadSo n from to mid left line) is read)
     where
       by : ReadSo Last from to mid left line → Session r u k left new
-      by (fine, (given, gives, reads)) = last_answered r t u n k mid left before new (waiting from) (waiting to) line number given answer so fine gives reads sends moves
+      by (fine, (given, gives, reads)) = last_answered r t u n k mid left before new (waiting from) (waiting to) line number given time answer so fine gives reads sends moves
 
   pub on_end : (t : State) (n : IdMaker) (mid left : Feed) (new : Tally) (from to : Lines) (next : Next) (line : Line) (number : ℕ) → next ≡ End → SoFar s t m n fed mid old new (waiting from) number → ReadSo next from to mid left line → Session (Ok tt) t n left new
   on_end t n mid left new from to next line number is so read = by (subst (λ n. ReadSo n from to mid left line) is read)
@@ -260,7 +273,7 @@ module _ (s : State) (m : IdMaker) (fed : Feed) (old : Tally) where
 
   pub on_unsent : (e : ErrorKind) (t u : State) (n k : IdMaker) (mid left : Feed) (before new : Tally) (from to : Lines) (next : Next) (line : Line) (number : ℕ) → next ≡ Whole → SoFar s t m n fed mid old before (waiting from) number → ReadSo next from to mid left line
       → Replied t u n k (Err e) line before new → Session (Err e) u k left new
-  on_unsent e t u n k mid left before new from to next line number is so read (answer, sends, moves) = by (subst (λ n. ReadSo n from to mid left line) is read)
+  on_unsent e t u n k mid left before new from to next line number is so read (time, answer, sends, moves) = by (subst (λ n. ReadSo n from to mid left line) is read)
     where
       by : ReadSo Whole from to mid left line → Session (Err e) u k left new
-      by (fine, (given, gives, reads)) = cannot_write e t u n k mid left before new (waiting from) (waiting to) line number given answer so fine gives reads sends moves
+      by (fine, (given, gives, reads)) = cannot_write e t u n k mid left before new (waiting from) (waiting to) line number given time answer so fine gives reads sends moves

@@ -1,4 +1,4 @@
--- What a line has done on a store.
+-- What one request has done on a store.
 use Rattle.std.specs.Prelude.{◌≡◌, ℕ, List, Option, None, Some, Result, Bool, IsTrue, OnOk}
 use Rattle.sqlite.specs.Effect.{Database}
 use Rattle.sqlite.specs.State.{State, Survives}
@@ -49,7 +49,3 @@ pub record Did (deed : Option Deed) (old new : State) : Type 0 where
   pub moves : Moves old new (Changes deed)
   pub stays : WasOpenFor deed old new
   pub crash : LeavesDeed deed old new
-
--- so of one of which this holds
-abbrev pub DoesOne : (Option Deed → Type 0) → State → State → Type 0
-DoesOne Is old new = (deed : Option Deed) × Is deed × Did deed old new

@@ -6,18 +6,18 @@ use Rattle.sqlite.specs.Tree.{Trees}
 use Rattle.store_table.specs.Beside.{ShowsOthers}
 use Rattle.store_table.specs.Rows.{TableRow}
 use Rattle.fallowtime_texts.specs.declared.made.IdMaker.{IdMaker}
-use Rattle.fallowtime_session.specs.Deeds.{IsOpenFor, LeftByDeed}
+use Rattle.fallowtime_session.specs.Acts.{IsOpenAfter, LeftByAct}
 use Rattle.fallowtime_session.specs.Sessions.{Holds, Turn}
 
 -- Which databases a crash may leave along the lines: each begins with those that it may leave after the one before.
 abbrev pub LeftAlong : Database → (Trees → Type 0) → (m n : IdMaker) (turns : List Turn) (docs after : List TableRow) → Holds m n turns docs after → Trees → Type 0
 LeftAlong first Before m n [] docs after holds = Before
-LeftAlong first Before m n (t ∷ ts) docs after (next, mid, answers, changes, holds) = LeftAlong first (LeftByDeed first Before docs t.deed) next n ts mid after holds
+LeftAlong first Before m n (t ∷ ts) docs after (next, mid, answers, changes, holds) = LeftAlong first (LeftByAct first Before docs t.act) next n ts mid after holds
 
 -- Whether the connection is open, line by line: it is if a request was accepted, and once shut it stays shut.
 abbrev pub IsOpenAlong : Bool → List Turn → Bool → Type 0
 IsOpenAlong was_open [] is_open = is_open ≡ was_open
-IsOpenAlong was_open (t ∷ ts) is_open = (mid : Bool) × (IsTrue mid → IsTrue was_open) × IsOpenFor t.deed mid × IsOpenAlong mid ts is_open
+IsOpenAlong was_open (t ∷ ts) is_open = (mid : Bool) × (IsTrue mid → IsTrue was_open) × IsOpenAfter t.act mid × IsOpenAlong mid ts is_open
 
 -- The lines are answered one after the other, along these rows; and each database that a crash may leave now is left along them,
 -- with the other tables as they were.

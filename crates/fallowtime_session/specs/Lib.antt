@@ -3,7 +3,12 @@ pub mod Questions
 pub mod Reading
 pub mod Answers
 pub mod Objects
+pub mod Lists
+pub mod ListAnswers
 pub mod Deeds
+pub mod Acts
 pub mod Turns
+pub mod Joining
 pub mod Sessions
+pub mod ListLines
 pub mod Leaving

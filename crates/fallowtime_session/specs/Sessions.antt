@@ -1,20 +1,22 @@
 -- A session: lines, each with its answer.
-use Rattle.std.specs.Prelude.{◌≡◌, ◌⊎◌, ◌≤◌, ℕ, ◌+◌, ◌-◌, ◌^◌, List, [], ◌∷◌, ◌++◌, Option, Result, Ok, Err, length}
+use Rattle.std.specs.Prelude.{◌≡◌, ◌⊎◌, ◌≤◌, ℕ, ◌+◌, ◌-◌, ◌^◌, List, [], ◌∷◌, ◌++◌, Result, Ok, Err, length}
 use Rattle.std.specs.Io.KnownBytes.{Appends}
 use Rattle.bson_base.specs.Device.{Feed, Tally, Gives, IsExhausted, TakesBeginning}
 use Rattle.store_table.specs.Rows.{TableRow}
 use Rattle.cli_lines.specs.Line.{IsUnbroken}
 use Rattle.store_model.specs.declared.error.ErrorKind.{ErrorKind}
 use Rattle.store_model.specs.declared.error.ErrorKind.TheVariants.{Memory, Reader, Writer}
+use Rattle.fallowtime_texts.specs.Made.{at_time}
 use Rattle.fallowtime_texts.specs.declared.made.IdMaker.{IdMaker}
-use Rattle.fallowtime_session.specs.Deeds.{Changes, Deed}
+use Rattle.fallowtime_session.specs.Acts.{Act, ChangesBy}
 use Rattle.fallowtime_session.specs.Turns.{AnswersLine}
 
--- a line, its answer, and what was done for it
+-- a line, when it was answered, in milliseconds since 1970, its answer, and what was done for it
 pub record Turn : Type 0 where
   pub text : List ℕ
+  pub time : ℕ
   pub answer : List ℕ
-  pub deed : Option Deed
+  pub act : Act
   pub unbroken : IsUnbroken text
 
 -- the lines, each with its line feed
@@ -26,10 +28,10 @@ abbrev pub answers_of : List Turn → List ℕ
 answers_of [] = []
 answers_of (t ∷ ts) = t.answer ++ answers_of ts
 
--- the lines get their answers one after the other, each over the rows that the one before it left
+-- the lines get their answers one after the other, each at its time and over the rows that the one before it left
 abbrev pub Holds : IdMaker → IdMaker → List Turn → List TableRow → List TableRow → Type 0
 Holds m n [] docs after = (n ≡ m) × (after ≡ docs)
-Holds m n (t ∷ ts) docs after = (next : IdMaker) × (mid : List TableRow) × AnswersLine m next t.text t.answer t.deed × Changes t.deed docs mid × Holds next n ts mid after
+Holds m n (t ∷ ts) docs after = (next : IdMaker) × (mid : List TableRow) × AnswersLine (at_time t.time m) next t.text t.answer t.act × ChangesBy t.act docs mid × Holds next n ts mid after
 
 -- all of the input was read, and it is these lines, of which the last may lack its line feed
 abbrev pub ReadsAll : List Turn → Feed → Feed → Type 0

@@ -1,9 +1,9 @@
 -- What comes of a line.
-use Rattle.std.specs.Prelude.{◌≡◌, ◌≢◌, ◌⊎◌, ◌<◌, ◌≤◌, ℕ, List, [], ◌∷◌, length, Option, None, Some, Result, Ok, Err, IfOk, IsSomeAnd, IsUtf8, codes, Vec}
+use Rattle.std.specs.Prelude.{◌≡◌, ◌≢◌, ◌⊎◌, ◌<◌, ◌≤◌, ℕ, List, [], ◌∷◌, length, Option, None, Some, Result, Ok, Err, IfOk, IsSomeAnd, IsUtf8, MatchOption, codes, Vec}
 use Rattle.std.specs.Str.{IsValidUpTo}
 use Rattle.std.specs.declared.alloc.AllocError.{AllocError}
 use Rattle.std.specs.declared.alloc.Global.{Global}
-use Rattle.json.specs.Json.{Json, document as tree_of}
+use Rattle.json.specs.Json.{Json, Items, document as tree_of}
 use Rattle.json.specs.Strict.{HasUniqueKeys}
 use Rattle.sqlite.specs.State.{State}
 use Rattle.store_model.specs.declared.error.StoreError.{StoreError}
@@ -16,19 +16,27 @@ use Rattle.fallowtime_requests.specs.declared.reading.Question.{Question}
 use Rattle.fallowtime_requests.specs.declared.stop.Stop.TheVariants.{Words as BadWords}
 use Rattle.fallowtime_requests.specs.declared.unread.Unread.{Unread}
 use Rattle.fallowtime_texts.specs.declared.made.IdMaker.{IdMaker}
+use Rattle.fallowtime_lists.specs.Listing.{AreAnswersTo}
+use Rattle.fallowtime_lists.specs.declared.error.ListError.{ListError}
+use Rattle.fallowtime_session.specs.Acts.{Act, Acted, list, single}
 use Rattle.fallowtime_session.specs.Answers.{Shows, line_of, memory, words}
-use Rattle.fallowtime_session.specs.Deeds.{Deed, Did}
+use Rattle.fallowtime_session.specs.Deeds.{Deed}
+use Rattle.fallowtime_session.specs.ListAnswers.{ShowsAll, words_at}
+use Rattle.fallowtime_session.specs.Lists.{AskAll, IsFirstUnread, IsList, behind_all, requests_in}
 use Rattle.fallowtime_session.specs.Places.{byte_place}
 use Rattle.fallowtime_session.specs.Questions.{Asks, Stops, command_in, id_of}
 
 -- what comes of a line: it is empty; it is too long; it has no tree, or its tree is no question, as is seen at a place;
--- what it asks for was done; or memory ran out before that. With the id of the question, if that was read.
+-- it is a list, and one of its requests is no question; what it asks for was done, of one request or of a list of them; or
+-- memory ran out before that. With the id of the question, if that was read.
 pub data Outcome : Type 0 where
   empty : Outcome
   too_long : Outcome
   no_tree : (id : Option Json) (place : List ℕ) → Outcome
   no_question : (id : Option Json) (place : List ℕ) → Outcome
+  no_list : (id : Option Json) (request : ℕ) (place : List ℕ) → Outcome
   done : (id : Option Json) (layout : Layout) (deed : Deed) → Outcome
+  done_all : (id : Option Json) (questions : List Question) (outcome : Result (Vec Answer Global) ListError) → Outcome
   no_memory : (id : Option Json) → Outcome
 
 -- the tree of a text in which no object has a key twice
@@ -47,14 +55,21 @@ HasNoTree text id place =
 abbrev pub RepeatsKey : List ℕ → List ℕ → Type 0
 RepeatsKey text line = (id : Option Json) × HasNoTree text id (codes "repeated key") × (line ≡ line_of id (words (codes "repeated key")))
 
--- it asks for nothing, as is seen at this place
+-- it is no list, and asks for nothing, as is seen at this place; or it is one without an array of requests
 abbrev pub AsksNothing : IdMaker → Json → List ℕ → Type 0
-AsksNothing m j place = (u : Unread) × Stops m j (BadWords u) × (place ≡ at_text u)
+AsksNothing m j place =
+    MatchOption (behind_all j) ((u : Unread) × Stops m j (BadWords u) × (place ≡ at_text u)) (λ rest. (requests_in rest ≡ None) × (place ≡ codes "arguments"))
+
+-- it is a list, and the first of its requests that asks for nothing is the one at this position, as is seen at this place of it
+abbrev pub ListsNothing : IdMaker → Json → ℕ → List ℕ → Type 0
+ListsNothing m j i place = (js : Items) × (u : Unread) × IsList j js × IsFirstUnread m js i u × (place ≡ at_text u)
 
 -- of a question with this id, and of what states its command; the ids that it takes come of the maker
 abbrev pub IsOfTree : IdMaker → IdMaker → Option Json → Json → Outcome → Type 0
 IsOfTree m n id command (no_question i place) = (i ≡ id) × AsksNothing m command place × (n ≡ m)
+IsOfTree m n id command (no_list i request place) = (i ≡ id) × ListsNothing m command request place × (n ≡ m)
 IsOfTree m n id command (done i l d) = (i ≡ id) × Asks m n command d.name d.request l × IfOk d.outcome (IsAnswerTo d.request)
+IsOfTree m n id command (done_all i qs o) = (i ≡ id) × ((js : Items) × IsList command js × AskAll m n js qs) × IfOk o (λ (answers : Vec Answer Global). AreAnswersTo qs answers.items)
 IsOfTree m n id command (no_memory i) = ((i ≡ None) ⊎ (i ≡ id)) × (n ≡ m)
 IsOfTree m n id command _ = ⊥
 
@@ -80,9 +95,10 @@ IsOf m n text empty = IsEmptyLine text × (n ≡ m)
 IsOf m n text (no_memory None) = (text ≢ []) × IsOfBytes m n text (no_memory None)
 IsOf m n text o = ¬ IsEmptyLine text × IsOfBytes m n text o
 
-abbrev pub deed_of : Outcome → Option Deed
-deed_of (done id l d) = Some d
-deed_of _ = None
+abbrev pub act_of : Outcome → Act
+act_of (done id l d) = single (Some d)
+act_of (done_all id qs o) = list qs o
+act_of _ = single None
 
 -- the line of the answer; if memory runs out once something was done, it says so
 abbrev pub Writes : Outcome → List ℕ → Type 0
@@ -90,14 +106,16 @@ Writes empty line = line ≡ []
 Writes too_long line = line ≡ line_of None (words (codes "64 MiB"))
 Writes (no_tree id place) line = line ≡ line_of id (words place)
 Writes (no_question id place) line = line ≡ line_of id (words place)
+Writes (no_list id request place) line = line ≡ line_of id (words_at request place)
 Writes (done id l d) line = Shows l id d.outcome line ⊎ (line ≡ line_of id memory)
+Writes (done_all id qs o) line = ShowsAll id o line ⊎ (line ≡ line_of id memory)
 Writes (no_memory id) line = line ≡ line_of id memory
 
 -- some such outcome, which is answered by the line, and did this
-abbrev pub Comes : (Outcome → Type 0) → List ℕ → Option Deed → Type 0
-Comes Is line deed = (o : Outcome) × Is o × Writes o line × (deed ≡ deed_of o)
+abbrev pub Comes : (Outcome → Type 0) → List ℕ → Act → Type 0
+Comes Is line act = (o : Outcome) × Is o × Writes o line × (act ≡ act_of o)
 
-abbrev pub AnswersLine : IdMaker → IdMaker → List ℕ → List ℕ → Option Deed → Type 0
+abbrev pub AnswersLine : IdMaker → IdMaker → List ℕ → List ℕ → Act → Type 0
 AnswersLine m n text = Comes (IsOf m n text)
 
 -- ---- its parts
@@ -108,7 +126,12 @@ deed_by q r = record { name = q.collection.now; request = q.request; outcome = r
 -- a question was done, with this outcome, and its answer made; there is none if memory ran out
 abbrev pub Carries : Option Json → Question → Result (Vec ℕ Global) AllocError → State → State → Type 0
 Carries id q made old new =
-    (r : Result Answer StoreError) × Did (Some (deed_by q r)) old new × IfOk r (IsAnswerTo q.request) × IfOk made (λ line. Shows q.layout id r line.items)
+    (r : Result Answer StoreError) × Acted (single (Some (deed_by q r))) old new × IfOk r (IsAnswerTo q.request) × IfOk made (λ line. Shows q.layout id r line.items)
+
+-- so were the questions of a list
+abbrev pub CarriesAll : Option Json → List Question → Result (Vec ℕ Global) AllocError → State → State → Type 0
+CarriesAll id qs made old new =
+    (r : Result (Vec Answer Global) ListError) × Acted (list qs r) old new × IfOk r (λ (answers : Vec Answer Global). AreAnswersTo qs answers.items) × IfOk made (λ line. ShowsAll id r line.items)
 
 -- the line that is made, or the one for out of memory
 abbrev pub made_line : Option Json → Result (Vec ℕ Global) AllocError → List ℕ

@@ -1,6 +1,6 @@
 //! The lines of answers.
 
-ghost use Rattle.std.specs.Prelude.{◌≡◌, ◌++◌, OnOk, codes, decimal, map, string_bytes};
+ghost use Rattle.std.specs.Prelude.{◌≡◌, ◌++◌, Ok as Told, OnOk, codes, decimal, map, string_bytes};
 ghost use Rattle.std.specs.Option.{option_map};
 ghost use Rattle.json.specs.Json.{array, boolean, no_members, null, number as number_form};
 ghost use Rattle.bson_model.specs.View.{view};
@@ -352,6 +352,38 @@ fn values_line(
     }
 }
 
+/// The line of an answer.
+pub(crate) fn told_line(
+    alloc: Global,
+    id: Option<&Value<'_>>,
+    layout: Layout,
+    answer: &Answer,
+) -> Result<Vec<u8>, AllocError>
+    requires { IsWritable id }
+    ensures { Makes (Shows layout (id_tree id.entry) (Told answer.now)) result }
+{
+    match answer {
+        Answer::Nothing => empty_line(alloc, id),
+        Answer::Id(value) => value_line(alloc, id, "_id", value),
+        Answer::Flag(flag) => flag_line(alloc, id, *flag),
+        Answer::Number(number) => number_line(alloc, id, *number),
+        Answer::Document(body) => document_line(alloc, id, body.as_slice()),
+        Answer::Documents(bodies) => match layout {
+            Layout::Each => documents_line(alloc, id, bodies.as_slice()),
+            Layout::Stream => stream_line(alloc, id, bodies.as_slice()),
+        },
+        Answer::Found(found) => changed_line(alloc, id, found),
+        Answer::Names(names) => names_line(alloc, id, names.as_slice()),
+        Answer::Values(values, counts) => values_line(alloc, id, values.as_slice(), *counts),
+        Answer::Updated(matched, changed) => update_line(alloc, id, *matched, *changed),
+        Answer::NotUpdated(at, error) => {
+            refusal_line(alloc, id, update_name(*error), Some(*at), None)
+        }
+        Answer::Upserted(own) => upsert_line(alloc, id, own),
+        Answer::NotUpserted(error) => refusal_line(alloc, id, update_name(*error), None, None),
+    }
+}
+
 /// The line of what the store returned.
 pub(crate) fn answer_line(
     alloc: Global,
@@ -363,26 +395,7 @@ pub(crate) fn answer_line(
     ensures { Makes (Shows layout (id_tree id.entry) outcome.now) result }
 {
     match outcome {
-        Ok(Answer::Nothing) => empty_line(alloc, id),
-        Ok(Answer::Id(value)) => value_line(alloc, id, "_id", value),
-        Ok(Answer::Flag(flag)) => flag_line(alloc, id, *flag),
-        Ok(Answer::Number(number)) => number_line(alloc, id, *number),
-        Ok(Answer::Document(body)) => document_line(alloc, id, body.as_slice()),
-        Ok(Answer::Documents(bodies)) => match layout {
-            Layout::Each => documents_line(alloc, id, bodies.as_slice()),
-            Layout::Stream => stream_line(alloc, id, bodies.as_slice()),
-        },
-        Ok(Answer::Found(found)) => changed_line(alloc, id, found),
-        Ok(Answer::Names(names)) => names_line(alloc, id, names.as_slice()),
-        Ok(Answer::Values(values, counts)) => values_line(alloc, id, values.as_slice(), *counts),
-        Ok(Answer::Updated(matched, changed)) => update_line(alloc, id, *matched, *changed),
-        Ok(Answer::NotUpdated(at, error)) => {
-            refusal_line(alloc, id, update_name(*error), Some(*at), None)
-        }
-        Ok(Answer::Upserted(own)) => upsert_line(alloc, id, own),
-        Ok(Answer::NotUpserted(error)) => {
-            refusal_line(alloc, id, update_name(*error), None, None)
-        }
+        Ok(answer) => told_line(alloc, id, layout, answer),
         Err(error) => refusal_line(alloc, id, error.kind.name(), error.document, None),
     }
 }

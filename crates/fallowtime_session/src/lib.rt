@@ -4,10 +4,18 @@
 
 mod answers;
 mod bodies;
+mod joining;
+mod list_answers;
+mod list_lines;
+mod lists;
 mod objects;
 mod places;
 mod questions;
 mod serving;
 mod turns;
 
+pub use joining::{JoinStop, Joined, join_lines};
+pub use list_lines::send_answers;
+pub use lists::{ListStop, questions_in};
+pub use places::Place;
 pub use serving::{send, serve};

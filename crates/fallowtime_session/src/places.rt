@@ -9,7 +9,7 @@ use std::alloc::{AllocError, Global};
 
 /// Where a line is no question.
 #[derive(Drop)]
-pub(crate) enum Place {
+pub enum Place {
     /// The line is no text of JSON (RFC 8259), or its objects and arrays are nested more than 128 deep. The number is
     /// of the byte, counted from 0, at which that is seen.
     Byte(usize),
@@ -33,7 +33,7 @@ fn with_number(alloc: Global, text: &str, number: u64) -> Result<String, AllocEr
 
 impl Place {
     /// The text that says where.
-    pub(crate) fn text(&self, alloc: Global) -> Result<String, AllocError>
+    pub fn text(&self, alloc: Global) -> Result<String, AllocError>
         ensures { IfOk result (λ t. string_bytes t ≡ place_text self.now) }
     {
         match self {

@@ -1,8 +1,10 @@
 //! What a line asks for.
 
 ghost use Rattle.std.specs.Prelude.{◌≡◌, ℕ, List, MatchOption, MatchResult};
+ghost use Rattle.std.specs.Option.{option_map};
 ghost use Rattle.json.specs.Json.{string as json_string};
-ghost use Rattle.json.specs.Value.{value_view as data_of};
+ghost use Rattle.json.specs.Value.{items_view, value_view as data_of};
+ghost use Rattle.fallowtime_session.specs.Lists.{behind_all, names_all, requests_in};
 ghost use Rattle.fallowtime_session.specs.Questions.{Asks, Stops};
 ghost use Rattle.fallowtime_session.specs.Reading.{Begins};
 
@@ -33,6 +35,36 @@ fn split_command<'t, 'w>(tree: &'t Value<'w>) -> Option<(Command, &'t [Value<'w>
     let name = text_in(first)?;
     let command = Command::from_word(name)?;
     Some((command, rest))
+}
+
+/// Whether a value is the name of a list of requests.
+fn is_all(value: &Value<'_>) -> bool
+    ensures { result ≡ names_all (data_of value.now) }
+{
+    match value {
+        Value::String(text) => *text == "all",
+        _ => false,
+    }
+}
+
+/// What is after `all`, if an array begins with that.
+pub(crate) fn behind_all<'t, 'w>(tree: &'t Value<'w>) -> Option<&'t [Value<'w>]>
+    ensures { option_map (λ rest. items_view rest.now) result ≡ behind_all (data_of tree.now) }
+{
+    match items_of(tree)? {
+        [first, rest @ ..] if is_all(first) => Some(rest),
+        _ => None,
+    }
+}
+
+/// The requests of a list, if what is after `all` is an array of them alone.
+pub(crate) fn requests_in<'t, 'w>(rest: &'t [Value<'w>]) -> Option<&'t [Value<'w>]>
+    ensures { option_map (λ requests. items_view requests.now) result ≡ requests_in (items_view rest.now) }
+{
+    match rest {
+        [requests] => items_of(requests),
+        _ => None,
+    }
 }
 
 /// What an array asks for that has a command's name and its arguments.

@@ -5,17 +5,19 @@ ghost use Rattle.bson_base.specs.Device.{CanFail, CanRefuse};
 ghost use Rattle.store_table.specs.Moves.{Moves};
 ghost use Rattle.bson_store.specs.Calls.{Relates, store_state};
 ghost use Rattle.cli_lines.specs.Line.{Keeps};
-ghost use Rattle.fallowtime_session.specs.Deeds.{DoesOne};
+ghost use Rattle.fallowtime_session.specs.Acts.{DoesOne};
 ghost use Rattle.fallowtime_session.specs.Leaving.{LeavesTurns};
 ghost use Rattle.fallowtime_session.specs.Sessions.{Ends, Holds, Sends, Turn};
 ghost use Rattle.fallowtime_session.specs.Turns.{AnswersLine, IsEmptyLine};
+ghost use Rattle.fallowtime_texts.specs.Made.{at_time};
 ghost use Rattle.cli_lines.specs.declared.line.Kept.TheVariants.{Whole};
 
+use crate::joining::is_blank;
 use crate::turns::answer_of;
 use bson_base::{Sink, Source, write_all};
 use bson_store::{ErrorKind, Store};
 use cli_lines::{Kept, Line, Lines, Next};
-use fallowtime_texts::IdMaker;
+use fallowtime_texts::{Clock, IdMaker};
 use json::Scratch;
 use sqlite::Alter;
 use std::alloc::Global;
@@ -38,7 +40,7 @@ pub fn send<O: Sink>(output: &mut O, line: &[u8]) -> Result<(), ErrorKind>
 fn is_empty(line: &Line) -> bool
     ensures { IsTrue result ↔ ((line.now.kept ≡ Whole) × IsEmptyLine line.now.bytes.items) }
 {
-    line.kept == Kept::Whole && matches!(line.bytes.as_slice(), [] | [b'\r'])
+    line.kept == Kept::Whole && is_blank(line.bytes.as_slice())
 }
 
 /// Does what a line asks for, and writes its answer. An empty line is passed over. `Writer` if the write failed.
@@ -68,15 +70,36 @@ fn reply<S: Alter + Drop, O: Sink>(
     }
 }
 
+/// Does what a line asks for at the time of the clock, and writes its answer, as `reply` does.
+fn reply_in_time<S: Alter + Drop, C: Clock, O: Sink>(
+    alloc: Global,
+    store: &mut Store<S>,
+    clock: &mut C,
+    maker: &mut IdMaker,
+    scratch: &mut Scratch,
+    line: &Line,
+    output: &mut O,
+) -> Result<(), ErrorKind>
+    requires { CanRefuse (O.tally output.old) }
+    ensures { (time : ℕ) × (answer : List ℕ) × Sends result answer (O.tally output.old) (O.tally output.new)
+        × ((text : List ℕ) → Keeps line.now text → DoesOne
+        (AnswersLine (at_time time maker.old) maker.new text answer) (store_state S.Store store.old)
+        (store_state S.Store store.new)) }
+{
+    maker.set_time(clock.millis());
+    reply(alloc, store, maker, scratch, line, output)
+}
+
 /// Does what the lines of `input` ask for on `store`, one after the other, and answers each on a line of `output`,
-/// until the input ends. An empty line is passed over. `maker` makes the `_id`s of documents that come without
-/// one.
+/// until the input ends. An empty line is passed over. `maker` makes the `_id`s of documents that come without one, and
+/// the dates that updates ask for, each at the time that `clock` tells before the line is answered.
 ///
 /// `Reader` if a read failed, or a line or the input has 2⁶⁴ - 2 bytes or more; `Writer` if a write failed, after which
 /// nothing more is done; `Memory` if there is none for the session itself, and then no line is read.
-pub fn serve<S: Alter + Drop, I: Source, O: Sink>(
+pub fn serve<S: Alter + Drop, C: Clock, I: Source, O: Sink>(
     alloc: Global,
     store: &mut Store<S>,
+    clock: &mut C,
     maker: &mut IdMaker,
     input: &mut I,
     output: &mut O,
@@ -100,8 +123,12 @@ pub fn serve<S: Alter + Drop, I: Source, O: Sink>(
     let mut scratch = Scratch::new(alloc);
     for _turn in 0..u64::MAX {
         match lines.read(input, &mut line) {
-            Ok(Next::Whole) => reply(alloc, store, maker, &mut scratch, &line, output)?,
-            Ok(Next::Last) => return reply(alloc, store, maker, &mut scratch, &line, output),
+            Ok(Next::Whole) => {
+                reply_in_time(alloc, store, clock, maker, &mut scratch, &line, output)?
+            }
+            Ok(Next::Last) => {
+                return reply_in_time(alloc, store, clock, maker, &mut scratch, &line, output)
+            }
             Ok(Next::End) => return Ok(()),
             Err(_) => return Err(ErrorKind::Reader),
         }

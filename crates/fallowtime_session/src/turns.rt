@@ -2,26 +2,30 @@
 
 ghost use Rattle.std.specs.Prelude.{◌≡◌, ℕ, IsSomeAnd, List, None};
 ghost use Rattle.std.specs.Option.{option_map};
-ghost use Rattle.json.specs.Json.{document as tree_of};
 ghost use Rattle.json.specs.Strict.{HasUniqueKeys};
 ghost use Rattle.json.specs.Tree.{HasNumbers, MembersHaveNumbers};
-ghost use Rattle.json.specs.Value.{members_view, value_view as data_of};
+ghost use Rattle.json.specs.Json.{Json, document as tree_of};
+ghost use Rattle.json.specs.Value.{items_view, members_view, value_view as data_of};
 ghost use Rattle.bson_store.specs.Calls.{store_state};
 ghost use Rattle.cli_lines.specs.Line.{Keeps};
 ghost use Rattle.fallowtime_session.specs.Answers.{line_of, words};
-ghost use Rattle.fallowtime_session.specs.Deeds.{DoesOne};
+ghost use Rattle.fallowtime_session.specs.Acts.{DoesOne};
+ghost use Rattle.fallowtime_session.specs.Lists.{IsList, behind_all};
 ghost use Rattle.fallowtime_session.specs.Objects.{IsWritable, Makes, id_tree};
 ghost use Rattle.fallowtime_session.specs.Places.{byte_place};
 ghost use Rattle.fallowtime_session.specs.Questions.{command_in, command_or, do_beside_id, id_after, id_of};
-ghost use Rattle.fallowtime_session.specs.Turns.{Carries, Comes, IsOfBytes, IsOfText, IsOfTree, RepeatsKey, made_line};
+ghost use Rattle.fallowtime_session.specs.Turns.{Carries, CarriesAll, Comes, IsOfBytes, IsOfText, IsOfTree, RepeatsKey, made_line};
 
 use crate::answers::{answer_line, memory_line, words_line};
+use crate::list_answers::{list_line, stop_line};
+use crate::lists::{discard_all, questions_in};
 use crate::places::Place;
-use crate::questions::question_in;
+use crate::questions::{behind_all, question_in, requests_in};
 use bson_store::Store;
 use cli_lines::{Kept, Line};
-use fallowtime_commands::perform;
-use fallowtime_requests::{Question, Stop};
+use fallowtime_commands::{Answer, perform};
+use fallowtime_lists::{ListError, perform_all};
+use fallowtime_requests::{Question, Stop, Unread};
 use fallowtime_texts::IdMaker;
 use json::{MAX_DEPTH, Reader, Scratch, Value};
 use sqlite::Alter;
@@ -116,6 +120,77 @@ fn discard(question: Question<'_>) {
     drop(question);
 }
 
+/// Does what a request asks for that is no list, and returns the line of its answer.
+fn answer_request<S: Alter + Drop>(
+    alloc: Global,
+    store: &mut Store<S>,
+    maker: &mut IdMaker,
+    id: Option<&Value<'_>>,
+    command: &Value<'_>,
+) -> Result<Vec<u8>, AllocError>
+    requires id { IsWritable id }
+    requires single { behind_all (data_of command.now) ≡ None }
+    ensures { DoesOne (Comes (IsOfTree maker.old maker.new (id_tree id.entry)
+        (data_of command.now)) (made_line (id_tree id.entry) result))
+        (store_state S.Store store.old) (store_state S.Store store.new) }
+{
+    let mut trial = maker.copy();
+    match question_in(alloc, command, &mut trial) {
+        Ok(question) => {
+            *maker = trial;
+            answer_question(alloc, store, id, question)
+        }
+        Err(Stop::Words(unread)) => words_line(alloc, id, &Place::Request(unread)),
+        Err(Stop::Memory) => Err(AllocError),
+    }
+}
+
+/// Does all that questions ask for, as one list, and returns the line of the answer.
+fn answer_questions<S: Alter + Drop>(
+    alloc: Global,
+    store: &mut Store<S>,
+    id: Option<&Value<'_>>,
+    questions: Vec<Question<'_>>,
+) -> Result<Vec<u8>, AllocError>
+    requires { IsWritable id }
+    ensures { CarriesAll (id_tree id.entry) questions.entry.items result
+        (store_state S.Store store.old) (store_state S.Store store.new) }
+{
+    let outcome = perform_all(alloc, store, questions.as_slice());
+    discard_all(questions);
+    let line = list_line(alloc, id, &outcome);
+    discard_outcome(outcome);
+    line
+}
+
+/// Lets the outcome of a list go, for the reason that `discard` is there.
+fn discard_outcome(outcome: Result<Vec<Answer>, ListError>) {
+    drop(outcome);
+}
+
+/// Does all that the requests of a list ask for, or nothing, and returns the line of the answer.
+fn answer_list<S: Alter + Drop>(
+    alloc: Global,
+    store: &mut Store<S>,
+    maker: &mut IdMaker,
+    id: Option<&Value<'_>>,
+    requests: &[Value<'_>],
+) -> Result<Vec<u8>, AllocError>
+    requires { IsWritable id }
+    ensures { (command : Json) → IsList command (items_view requests.now) → DoesOne (Comes
+        (IsOfTree maker.old maker.new (id_tree id.entry) command) (made_line (id_tree id.entry) result))
+        (store_state S.Store store.old) (store_state S.Store store.new) }
+{
+    let mut trial = maker.copy();
+    match questions_in(alloc, requests, &mut trial) {
+        Ok(questions) => {
+            *maker = trial;
+            answer_questions(alloc, store, id, questions)
+        }
+        Err(stop) => stop_line(alloc, id, &stop),
+    }
+}
+
 /// Does what a tree asks for, and returns the line of its answer.
 fn answer_command<S: Alter + Drop>(
     alloc: Global,
@@ -129,14 +204,12 @@ fn answer_command<S: Alter + Drop>(
         (data_of command.now)) (made_line (id_tree id.entry) result))
         (store_state S.Store store.old) (store_state S.Store store.new) }
 {
-    let mut trial = maker.copy();
-    match question_in(alloc, command, &mut trial) {
-        Ok(question) => {
-            *maker = trial;
-            answer_question(alloc, store, id, question)
-        }
-        Err(Stop::Words(unread)) => words_line(alloc, id, &Place::Request(unread)),
-        Err(Stop::Memory) => Err(AllocError),
+    let Some(rest) = behind_all(command) else {
+        return answer_request(alloc, store, maker, id, command);
+    };
+    match requests_in(rest) {
+        Some(requests) => answer_list(alloc, store, maker, id, requests),
+        None => words_line(alloc, id, &Place::Request(Unread::Arguments)),
     }
 }
 
@@ -162,7 +235,7 @@ fn answer_tree<S: Alter + Drop>(
 }
 
 /// The byte at which a text is seen to be no JSON.
-fn fault_in(text: &str, scratch: &mut Scratch) -> Result<usize, AllocError> {
+pub(crate) fn fault_in(text: &str, scratch: &mut Scratch) -> Result<usize, AllocError> {
     let mut reader = Reader::new(text, scratch)?;
     let _passed = reader.skip_value(MAX_DEPTH);
     Ok(reader.offset())

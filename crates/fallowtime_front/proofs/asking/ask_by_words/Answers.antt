@@ -1,13 +1,13 @@
 use Rattle.std.proofs.Common.{◌∙◌, ap}
-use Rattle.fallowtime_requests.specs.Requests.{with_counts}
+use Rattle.fallowtime_requests.specs.Requests.{with_counts, with_drops}
 use Rattle.std.proofs.lemmas.Result.{err_from_is_err_and}
 use Rattle.fallowtime_front.proofs.AskingLemmas.{by_equalities, by_path, by_question, by_stop, by_wanted}
 use Rattle.fallowtime_front.proofs.asking.ask_by_words.Goals as goal
 
 pub returns : goal.returns
 returns c =
-    by_question c.args.words.now c.args.maker.now c.question_of_words.new.maker c.upsert_by_words.new.maker c.in_ok-read.read c.in_ok-named.named c.in_ok-question.question c.want.new.question c.without_lines.result c.with_counts-request.result c.in_ok-read.ensures.asked
-    c.in_ok-named.ensures c.in_ok-question.ensures.upserts (c.in_ok-wanted.wanted, c.in_ok-wanted.ensures, c.want.ensures.request) c.want.ensures.collection c.without_lines.ensures.collection (c.with_counts-request.ensures ∙ ap (with_counts c.args.words.now.options.counts) c.with_many.ensures) c.without_lines.ensures.request c.without_lines.ensures.lines
+    by_question c.args.words.now c.args.maker.now c.question_of_words.new.maker c.upsert_by_words.new.maker c.in_ok-read.read c.in_ok-named.named c.in_ok-question.question c.want.new.question c.without_lines.result c.with_drops-request.result c.in_ok-read.ensures.asked
+    c.in_ok-named.ensures c.in_ok-question.ensures.upserts (c.in_ok-wanted.wanted, c.in_ok-wanted.ensures, c.want.ensures.request) c.want.ensures.collection c.without_lines.ensures.collection (c.with_drops-request.ensures ∙ ap (with_drops c.args.words.now.options.drops) (c.with_counts.ensures ∙ ap (with_counts c.args.words.now.options.counts) c.with_many.ensures)) c.without_lines.ensures.request c.without_lines.ensures.lines
 
 pub returns-in_err-read : goal.returns-in_err-read
 returns-in_err-read c =

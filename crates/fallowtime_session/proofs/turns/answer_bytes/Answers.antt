@@ -1,7 +1,7 @@
 use Rattle.std.proofs.Common.{None, subst, sym}
 use Rattle.std.specs.Str.{IsValidUpTo}
 use Rattle.bson_store.specs.Calls.{store_state}
-use Rattle.fallowtime_session.specs.Deeds.{DoesOne}
+use Rattle.fallowtime_session.specs.Acts.{DoesOne}
 use Rattle.fallowtime_session.specs.Turns.{Comes, IsOfText, made_line}
 use Rattle.fallowtime_session.proofs.AnswerLemmas.{no_text}
 use Rattle.fallowtime_session.proofs.turns.answer_bytes.Goals as goal

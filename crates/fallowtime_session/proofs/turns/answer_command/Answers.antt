@@ -1,28 +1,16 @@
-use Rattle.std.proofs.Common.{refl, subst}
-use Rattle.json.specs.Value.{value_view}
+use Rattle.std.proofs.Common.{codes, sym}
+use Rattle.json.specs.Value.{items_view, value_view}
 use Rattle.bson_store.specs.Calls.{store_state}
-use Rattle.fallowtime_requests.specs.Reports.{at_text}
-use Rattle.fallowtime_requests.specs.declared.stop.Stop.TheVariants.{Words}
-use Rattle.fallowtime_session.specs.Answers.{words}
-use Rattle.fallowtime_session.specs.Objects.{MakesLine, id_tree}
-use Rattle.fallowtime_session.specs.Questions.{Asks, Stops}
-use Rattle.fallowtime_session.proofs.AnswerLemmas.{nothing_done, replied, unasked}
+use Rattle.fallowtime_session.specs.Objects.{id_tree}
+use Rattle.fallowtime_session.proofs.AnswerLemmas.{unasked}
+use Rattle.fallowtime_session.proofs.ListLemmas.{no_requests}
 use Rattle.fallowtime_session.proofs.turns.answer_command.Goals as goal
 
-pub returns-in-Ok : goal.returns-in-Ok
-returns-in-Ok g c =
-    let q = c.in-Ok.question in
-    let command = value_view c.args.command.now in
-    replied (store_state g.S.Store c.args.store.now) (store_state g.S.Store c.answer_question.new.store) c.args.maker.now c.question_in.new.maker (id_tree c.args.id) command q c.answer_question.result
-    (subst (λ m. Asks m c.question_in.new.maker command q.collection.now q.request q.layout) c.copy-trial.ensures c.in-Ok.ensures) c.answer_question.ensures
+pub returns-in-Some-requests_in : goal.returns-in-Some-requests_in
+returns-in-Some-requests_in g c = c.answer_list.ensures (value_view c.args.command.now) (items_view c.in-Some.rest.now, sym c.in-Some.ensures, sym c.in-Some-requests_in.ensures)
 
-pub returns-in-Err-Words : goal.returns-in-Err-Words
-returns-in-Err-Words g c =
+pub returns-in-None : goal.returns-in-None
+returns-in-None g c =
     let command = value_view c.args.command.now in
-    let u = c.in-Err-Words.unread in
-    unasked (store_state g.S.Store c.args.store.now) c.args.maker.now (id_tree c.args.id) command (at_text u) c.words_line.result
-    (u, subst (λ m. Stops m command (Words u)) c.copy-trial.ensures (subst (λ s. Stops c.copy-trial.result command s) c.in-Err-Words.field-0-is c.in-Err-Words.ensures), refl)
-    (subst (λ x. MakesLine (id_tree c.args.id) (words (at_text x)) c.words_line.result) c.in-Err-Words.unread-is c.words_line.ensures)
-
-pub returns-in-Err-Memory : goal.returns-in-Err-Memory
-returns-in-Err-Memory g c = nothing_done (store_state g.S.Store c.args.store.now) c.args.maker.now (id_tree c.args.id) (value_view c.args.command.now) _
+    unasked (store_state g.S.Store c.args.store.now) c.args.maker.now (id_tree c.args.id) command (codes "arguments") c.words_line.result
+    (no_requests c.args.maker.now command (items_view c.in-Some.rest.now) c.in-Some.ensures c.in-None.ensures) c.words_line.ensures

@@ -1,6 +1,6 @@
 use Rattle.std.proofs.Common.{◌≡◌, ◌∙◌, None, subst}
 use Rattle.bson_store.specs.Calls.{store_state}
-use Rattle.fallowtime_session.specs.Deeds.{DoesOne}
+use Rattle.fallowtime_session.specs.Acts.{DoesOne}
 use Rattle.fallowtime_session.specs.Turns.{Comes, IsOfText, made_line}
 use Rattle.fallowtime_session.proofs.AnswerLemmas.{kept_whole, long_is, overlong, unkept, whole_is}
 use Rattle.fallowtime_session.proofs.turns.answer_of.Goals as goal

@@ -2,7 +2,7 @@ use Rattle.std.proofs.Common.{◌∙◌, None, ap, subst, sym}
 use Rattle.std.proofs.lemmas.Result.{err_from_is_err_and}
 use Rattle.json.specs.Value.{value_view}
 use Rattle.bson_store.specs.Calls.{store_state}
-use Rattle.fallowtime_session.specs.Deeds.{DoesOne}
+use Rattle.fallowtime_session.specs.Acts.{DoesOne}
 use Rattle.fallowtime_session.specs.Objects.{id_tree}
 use Rattle.fallowtime_session.specs.Questions.{command_in, id_of}
 use Rattle.fallowtime_session.specs.Turns.{Comes, IsOfTree, made_line}
