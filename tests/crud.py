@@ -26,7 +26,7 @@ FOLDER = pathlib.Path("/usr/share/gocode/src/go.mongodb.org/mongo-driver/data/cr
 # How many there are, and how many have to pass.
 COUNT = 202
 IS_RELAYED = "--relay" in sys.argv[2:]
-LEAST = 115 if IS_RELAYED else 153
+LEAST = 121 if IS_RELAYED else 153
 # The version of MongoDB whose answers are wanted.
 VERSION = (5, 0)
 

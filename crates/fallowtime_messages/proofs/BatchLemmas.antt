@@ -1,20 +1,19 @@
 -- What was found, told batch by batch, and finds that are let go, one after the other.
-use Rattle.std.proofs.Common.{◌≡◌, ◌<◌, ◌+◌, inl, inr, ℤ, ℕ, suc, zero, Bool, false, true, not, codes, List, [], ◌∷◌, length, drop, get_or, map, Option, Some, None, Result, Ok, Err, IfOk, Vec, refl, ap, sym, ◌∙◌, subst, arith}
+use Rattle.std.proofs.Common.{◌≡◌, ◌<◌, ◌+◌, inl, inr, ℤ, ℕ, suc, zero, Bool, false, true, not, codes, List, [], ◌∷◌, length, drop, get_or, Option, Some, None, Result, Ok, Err, IfOk, Vec, refl, ap, sym, ◌∙◌, subst, arith}
 use Rattle.std.specs.declared.alloc.AllocError.{AllocError}
 use Rattle.std.specs.declared.alloc.Global.{Global}
-use Rattle.bson_base.specs.Value.{Members, Value}
-use Rattle.bson_model.specs.View.{content, items_of, view}
-use Rattle.bson_model.specs.declared.bson.Bson.{Bson}
+use Rattle.bson_base.specs.Value.{Value}
+use Rattle.bson_model.specs.View.{content, items_of}
 use Rattle.bson_model.specs.declared.document.Document.{Document}
 use Rattle.bson_store.specs.Export.{bytes_of_each}
 use Rattle.store_model.specs.declared.error.StoreError.{StoreError}
 use Rattle.fallowtime_commands.specs.declared.answer.Answer.{Answer}
 use Rattle.fallowtime_commands.specs.declared.answer.Answer.TheVariants as answer
-use Rattle.fallowtime_cursors.specs.Waiting.{BatchTold, ClosedTold, MoreTold, Wait}
-use Rattle.fallowtime_cursors.specs.declared.batch.Batch.{Batch}
+use Rattle.fallowtime_messages.specs.Waiting.{BatchTold, ClosedTold, MoreTold, Wait}
+use Rattle.fallowtime_messages.specs.declared.batch.Batch.{Batch}
 use Rattle.fallowtime_plans.specs.declared.asked.Way.{Way}
 use Rattle.fallowtime_plans.specs.declared.asked.Way.TheVariants as way
-use Rattle.fallowtime_plans.specs.declared.fault.Code.TheVariants as code
+use Rattle.fallowtime_statements.specs.declared.fault.Code.TheVariants as code
 use Rattle.fallowtime_messages.specs.Answers as told
 use Rattle.fallowtime_messages.specs.Outcomes.{Closes, Tells, TellsBatch, TellsBy, TellsClosed, TellsDocuments, TellsFound, TellsMore, batch_key, with_number}
 
@@ -42,8 +41,11 @@ told_by_way (way.Counted skip most) o ws (Ok d) tells = (refl, tells)
 told_by_way (way.Grouped space id skip most) o ws (Ok d) tells = (refl, tells)
 told_by_way (way.Modified removes) o ws (Ok d) tells = (refl, tells)
 told_by_way way.Different o ws (Ok d) tells = (refl, tells)
-told_by_way (way.Named space) o ws (Ok d) tells = (refl, tells)
+told_by_way (way.Named space only) o ws (Ok d) tells = (refl, tells)
 told_by_way way.Made o ws (Ok d) tells = (refl, tells)
+told_by_way (way.Dropped space) o ws (Ok d) tells = (refl, tells)
+told_by_way (way.Indexed space) o ws (Ok d) tells = (refl, tells)
+told_by_way (way.Unindexed all) o ws (Ok d) tells = (refl, tells)
 
 -- ---- what is let go
 

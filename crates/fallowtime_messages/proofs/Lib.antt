@@ -2,6 +2,8 @@ pub mod ValueLemmas
 pub mod DoneLemmas
 pub mod RunLemmas
 pub mod UpsertLemmas
+pub mod MovingLemmas
 pub mod BatchLemmas
 pub mod OutcomeLemmas
 pub mod ServeLemmas
+pub mod WaitLemmas

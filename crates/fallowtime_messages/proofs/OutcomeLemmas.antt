@@ -22,17 +22,18 @@ use Rattle.fallowtime_plans.specs.Plans.{Asks, IsRefused}
 use Rattle.fallowtime_messages.specs.Runs.{RunsTo, Sums, changes, counts, deed_of, ids_from}
 use Rattle.fallowtime_plans.specs.declared.asked.Plan.{Plan}
 use Rattle.fallowtime_plans.specs.declared.asked.Plan.TheVariants as plan
-use Rattle.fallowtime_plans.specs.declared.asked.Statement.{Statement}
+use Rattle.fallowtime_statements.specs.declared.statement.Statement.{Statement}
 use Rattle.fallowtime_plans.specs.declared.asked.Way.{Way}
 use Rattle.fallowtime_plans.specs.declared.asked.Way.TheVariants as way
-use Rattle.fallowtime_plans.specs.declared.fault.Code.{Code}
-use Rattle.fallowtime_plans.specs.declared.fault.Fault.{Fault}
-use Rattle.fallowtime_plans.specs.declared.fault.Fault.TheVariants.{Memory, Refused}
+use Rattle.fallowtime_statements.specs.declared.fault.Code.{Code}
+use Rattle.fallowtime_statements.specs.declared.fault.Fault.{Fault}
+use Rattle.fallowtime_statements.specs.declared.fault.Fault.TheVariants.{Memory, Refused}
 use Rattle.fallowtime_messages.specs.declared.writing.Written.{Written}
 use Rattle.fallowtime_messages.proofs.DoneLemmas.{none_done, one_before, one_done}
-use Rattle.fallowtime_plans.proofs.ListLemmas.{zip_seen}
-use Rattle.fallowtime_cursors.specs.Waiting.{Wait}
+use Rattle.fallowtime_statements.proofs.ListLemmas.{zip_seen}
+use Rattle.fallowtime_messages.specs.Waiting.{Wait}
 use Rattle.fallowtime_messages.proofs.RunLemmas.{run_begins}
+use Rattle.fallowtime_messages.proofs.MovingLemmas.{in_starts}
 use Rattle.fallowtime_messages.proofs.UpsertLemmas.{found_begins}
 
 -- ---- one thing
@@ -138,6 +139,8 @@ starts (plan.More space id size) old new ds m h = h.0
 starts (plan.Closes space ids) old new ds m h = h.0
 starts (plan.Upserts ss) old new ds m h = found_begins ss.items ds m h.1
 starts (plan.Writes ss stops changed) old new ds m h = run_begins stops ss.items ds h.1
+starts (plan.Renames name to) old new ds m (same, (d, is, one, tells)) = (d, is, one)
+starts (plan.Outs target space ss) old new ds m h = in_starts (string_bytes target) (string_bytes space) ss.items ds m h.1
 starts (plan.Inserts name documents stops) old new ds m (same, (s, d, rest, is, deed, split, inl all)) = inr (s, d, rest, is, deed, split, inl all.2)
 starts (plan.Inserts name documents stops) old new ds m (same, (s, d, rest, is, deed, split, inr (none, (ss, are, run), tells))) = inr (s, d, rest, is, deed, split, inr (none, (ss, are, run_begins stops ss rest run)))
 

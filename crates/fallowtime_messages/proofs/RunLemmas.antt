@@ -11,7 +11,7 @@ use Rattle.fallowtime_commands.specs.declared.answer.Answer.{Answer}
 use Rattle.fallowtime_session.specs.Deeds.{Deed, Did}
 use Rattle.fallowtime_messages.specs.Done.{DidAll, DoesAll}
 use Rattle.fallowtime_messages.specs.Runs.{Adds, AllGoOn, AreRun, Begin, IsDeedOf, Keeps, RunsTo, StopsAtOne, Sums, WritesOne, changed_of, changes, count_of, counts, deed_of, errors_from, errors_of, ids_from, ids_of, is_refused}
-use Rattle.fallowtime_plans.specs.declared.asked.Statement.{Statement}
+use Rattle.fallowtime_statements.specs.declared.statement.Statement.{Statement}
 use Rattle.fallowtime_messages.specs.declared.writing.Written.{Written}
 use Rattle.fallowtime_messages.proofs.DoneLemmas.{none_done, one_more}
 

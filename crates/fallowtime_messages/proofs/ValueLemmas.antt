@@ -1,6 +1,8 @@
 -- Values of answers.
-use Rattle.std.proofs.Common.{◌≡◌, ℕ, ℤ, pos, List, [], ◌∷◌, map, codes, Option, Some, None, is_some, unwrap_or, Result, Ok, Err, IfOk, refl, ap, ◌∙◌, if◌then◌else◌}
+use Rattle.std.proofs.Common.{◌≡◌, ◌<◌, ◌+◌, ℕ, ℤ, pos, List, [], ◌∷◌, ◌++◌, String, append_assoc, get_or, length, string_bytes, take, sym, map, codes, Option, Some, None, is_some, unwrap_or, Result, Ok, Err, IfOk, refl, ap, ◌∙◌, if◌then◌else◌}
+use Rattle.std.proofs.lemmas.List.{append-nil, map-append, take_more}
 use Rattle.std.specs.declared.alloc.AllocError.{AllocError}
+use Rattle.std.specs.declared.alloc.Global.{Global}
 use Rattle.bson_base.specs.Value.{Value, array, double, int32, scalar}
 use Rattle.bson_pairs.specs.Keyed.{Key, put}
 use Rattle.bson_model.specs.View.{content, items_of, members_of, pairs_of, view}
@@ -8,7 +10,7 @@ use Rattle.bson_model.specs.declared.bson.Bson.{Bson}
 use Rattle.bson_model.specs.declared.document.Document.{Document}
 use Rattle.fallowtime_messages.specs.Answers as told
 use Rattle.fallowtime_messages.specs.Answers.{after_changed, after_list}
-use Rattle.fallowtime_plans.proofs.ValueLemmas.{not_empty}
+use Rattle.fallowtime_statements.proofs.ValueLemmas.{not_empty}
 
 -- the answer to changes
 abbrev one : Value
@@ -55,3 +57,18 @@ pub told_written : (r : Result Document AllocError) (ps : List (Key × Value)) (
     → IfOk r (λ d. pairs_of d ≡ put (codes "ok") (scalar (double 4607182418800017408)) ps) → IfOk r (λ d. content d ≡ told.written (is_some c) n (unwrap_or c (pos 0)) (items_of (map view us)) (items_of (map view es)))
 told_written (Ok d) ps n c us es is done = ap members_of (done ∙ ap (put (codes "ok") (scalar (double 4607182418800017408))) is ∙ is_plainly us es (after c n)) ∙ written_plainly n c us es
 told_written (Err e) ps n c us es is done = tt
+
+-- collections, one after the other
+wanted_more : (only : Option (List ℕ)) (ns : List (List ℕ)) (n : List ℕ) → told.wanted only (ns ++ n ∷ []) ≡ told.wanted only ns ++ told.told_if (told.is_wanted only n) n
+wanted_more only [] n = append-nil (told.told_if (told.is_wanted only n) n)
+wanted_more only (m ∷ ns) n =
+    let first = told.told_if (told.is_wanted only m) m in
+    ap (λ vs. first ++ vs) (wanted_more only ns n) ∙ sym (append_assoc first (told.wanted only ns) (told.told_if (told.is_wanted only n) n))
+
+pub one_wanted : (only : Option (List ℕ)) (names : List (String Global)) (i : ℕ) (name : String Global) (told_before told_then : List Value) → i < length names → name ≡ get_or names i name
+    → told_before ≡ told.wanted only (map string_bytes (take i names)) → told_then ≡ told_before ++ told.told_if (told.is_wanted only (string_bytes name)) (string_bytes name) → told_then ≡ told.wanted only (map string_bytes (take (i + 1) names))
+one_wanted only names i name told_before told_then lt is before more =
+    let taken : take (i + 1) names ≡ take i names ++ name ∷ [] = take_more names i name lt ∙ ap (λ x. take i names ++ x ∷ []) (sym is) in
+    let all = ap (map string_bytes) taken ∙ map-append string_bytes (take i names) (name ∷ []) in
+    more ∙ ap (λ vs. vs ++ told.told_if (told.is_wanted only (string_bytes name)) (string_bytes name)) before
+    ∙ sym (ap (told.wanted only) all ∙ wanted_more only (map string_bytes (take i names)) (string_bytes name))

@@ -1,12 +1,13 @@
 -- The documents that tell what the store returned (MongoDB's manual, the page of each command).
-use Rattle.std.specs.Prelude.{ℕ, ℤ, pos, ◌-◌, ◌==◌, min, Bool, true, false, if◌then◌else◌, List, length, map, codes, Option, Some, None}
+use Rattle.std.specs.Prelude.{ℕ, ℤ, pos, ◌-◌, ◌==◌, min, Bool, true, false, if◌then◌else◌, List, [], ◌∷◌, ◌++◌, length, map, codes, Option, Some, None}
+use Rattle.std.specs.Str.{bytes_eq}
 use Rattle.bson_pairs.specs.Keyed.{Key, put}
 use Rattle.bson_model.specs.View.{items_of, view}
 use Rattle.bson_model.specs.declared.bson.Bson.{Bson}
-use Rattle.fallowtime_plans.specs.Codes.{code_name, code_number}
+use Rattle.fallowtime_statements.specs.Codes.{code_name, code_number}
 use Rattle.fallowtime_plans.specs.Told.{done}
-use Rattle.fallowtime_plans.specs.declared.fault.Code.{Code}
-use Rattle.fallowtime_plans.specs.declared.fault.Code.TheVariants as code
+use Rattle.fallowtime_statements.specs.declared.fault.Code.{Code}
+use Rattle.fallowtime_statements.specs.declared.fault.Code.TheVariants as code
 use Rattle.bson_base.specs.Value.{Value, Items, Members, array, boolean, document, double, int32, int64, item, member, no_items, no_members, scalar, string}
 
 -- how many of those that are found are counted ("count")
@@ -43,10 +44,23 @@ group id n = if n == 0 then no_items else item (group_of id (pos n)) no_items
 abbrev pub values : Items → Members
 values vs = member (codes "values") (array vs) done
 
--- a collection ("listCollections")
+-- collections ("listCollections")
 abbrev pub collection : List ℕ → Value
 collection name =
     document (member (codes "name") (scalar (string name)) (member (codes "type") (scalar (string (codes "collection"))) (member (codes "options") (document no_members) no_members)))
+
+-- a collection is told if all are, or this one alone
+abbrev pub is_wanted : Option (List ℕ) → List ℕ → Bool
+is_wanted None name = true
+is_wanted (Some only) name = bytes_eq name only
+
+abbrev pub told_if : Bool → List ℕ → List Value
+told_if true name = collection name ∷ []
+told_if false name = []
+
+abbrev pub wanted : Option (List ℕ) → List (List ℕ) → List Value
+wanted only [] = []
+wanted only (n ∷ ns) = told_if (is_wanted only n) n ++ wanted only ns
 
 abbrev pub found_number : Bool → ℤ
 found_number true = pos 1
@@ -99,6 +113,29 @@ refused why c =
 -- a collection with so many documents ("create")
 abbrev pub made : ℕ → Members
 made n = if n == 0 then done else refused (codes "create") code.NamespaceExists
+
+-- a collection that had so many documents is removed ("drop")
+abbrev pub dropped : List ℕ → ℕ → Members
+dropped namespace n =
+    if n == 0 then refused (codes "ns not found") code.NamespaceNotFound
+    else member (codes "nIndexesWas") (scalar (int32 (pos 1))) (member (codes "ns") (scalar (string namespace)) done)
+
+-- the index of the `_id`, which is the only one, as no other has an effect
+abbrev pub id_index : Value
+id_index =
+    document (member (codes "v") (scalar (int32 (pos 2))) (member (codes "key") (document (member (codes "_id") (scalar (int32 (pos 1))) no_members))
+    (member (codes "name") (scalar (string (codes "_id_"))) no_members)))
+
+-- the indexes of a collection with so many documents ("listIndexes")
+abbrev pub indexes : List ℕ → ℕ → Members
+indexes namespace n = if n == 0 then refused (codes "ns does not exist") code.NamespaceNotFound else found namespace (item id_index no_items)
+
+-- its indexes are dropped, all but that of the `_id`, or one, which isn't there ("dropIndexes")
+abbrev pub unindexed : Bool → ℕ → Members
+unindexed all n =
+    if n == 0 then refused (codes "ns not found") code.NamespaceNotFound
+    else if all then member (codes "nIndexesWas") (scalar (int32 (pos 1))) done
+    else refused (codes "index not found") code.IndexNotFound
 
 -- there is no memory for an answer, or it would be longer than a message may be; what was asked may have been done
 abbrev pub no_room : Members

@@ -1,5 +1,6 @@
 -- What comes of a command.
-use Rattle.std.specs.Prelude.{◌≡◌, ◌⊎◌, ℤ, pos, ℕ, Bool, true, false, not, List, [], ◌∷◌, ◌++◌, codes, map, Option, Some, None, Result, Ok, Err, String, string_bytes}
+use Rattle.std.specs.Prelude.{◌≡◌, ◌⊎◌, ◌==◌, ℤ, pos, ℕ, Bool, true, false, not, List, [], ◌∷◌, ◌++◌, codes, map, Option, Some, None, Result, Ok, Err, IfOk, string_bytes}
+use Rattle.std.specs.Option.{option_map}
 use Rattle.std.specs.List.{AllZip, flat_map}
 use Rattle.std.specs.declared.alloc.AllocError.{AllocError}
 use Rattle.std.specs.declared.alloc.Global.{Global}
@@ -13,27 +14,31 @@ use Rattle.bson_store.specs.Export.{bytes_of_each}
 use Rattle.store_distinct.specs.Counted.{value_in}
 use Rattle.store_model.specs.Refusal.{kind_name}
 use Rattle.store_model.specs.declared.error.StoreError.{StoreError}
+use Rattle.fallowtime_commands.specs.Performing.{IsAnswerTo}
 use Rattle.fallowtime_commands.specs.Reports.{update_name}
 use Rattle.fallowtime_commands.specs.declared.answer.Answer.{Answer}
 use Rattle.fallowtime_commands.specs.declared.answer.Answer.TheVariants as answer
+use Rattle.fallowtime_requests.specs.declared.request.Existing.TheVariants as existing
 use Rattle.fallowtime_requests.specs.declared.request.Request.{Request}
 use Rattle.fallowtime_requests.specs.declared.request.Request.TheVariants as request
+use Rattle.fallowtime_requests.specs.declared.request.Transfer.TheVariants as transfer
 use Rattle.fallowtime_session.specs.Deeds.{Deed, Did}
-use Rattle.fallowtime_cursors.specs.Waiting.{BatchTold, ClosedTold, MoreTold, Wait}
-use Rattle.fallowtime_cursors.specs.declared.batch.Batch.{Batch}
+use Rattle.fallowtime_messages.specs.Waiting.{BatchTold, ClosedTold, MoreTold, Wait}
+use Rattle.fallowtime_messages.specs.declared.batch.Batch.{Batch}
 use Rattle.fallowtime_messages.specs.Answers as told
 use Rattle.fallowtime_messages.specs.Done.{DidAll}
-use Rattle.fallowtime_plans.specs.Codes.{code_of, update_code}
+use Rattle.fallowtime_statements.specs.Codes.{code_of, rename_code, update_code}
 use Rattle.fallowtime_plans.specs.Plans.{Asks, IsRefused}
+use Rattle.fallowtime_plans.specs.Told.{done}
 use Rattle.fallowtime_messages.specs.Runs.{AreRun, Begin, IsDeedOf, changes, counts, errors_from, ids_from}
 use Rattle.fallowtime_plans.specs.declared.asked.Plan.{Plan}
 use Rattle.fallowtime_plans.specs.declared.asked.Plan.TheVariants as plan
-use Rattle.fallowtime_plans.specs.declared.asked.Statement.{Statement}
+use Rattle.fallowtime_statements.specs.declared.statement.Statement.{Statement}
 use Rattle.fallowtime_plans.specs.declared.asked.Way.{Way}
 use Rattle.fallowtime_plans.specs.declared.asked.Way.TheVariants as way
-use Rattle.fallowtime_plans.specs.declared.fault.Code.TheVariants as code
-use Rattle.fallowtime_plans.specs.declared.fault.Fault.{Fault}
-use Rattle.fallowtime_plans.specs.declared.fault.Fault.TheVariants.{Memory, Refused}
+use Rattle.fallowtime_statements.specs.declared.fault.Code.TheVariants as code
+use Rattle.fallowtime_statements.specs.declared.fault.Fault.{Fault}
+use Rattle.fallowtime_statements.specs.declared.fault.Fault.TheVariants.{Memory, Refused}
 use Rattle.fallowtime_messages.specs.declared.writing.Written.{Written}
 
 -- ---- one outcome
@@ -52,11 +57,14 @@ Tells w (Err e) m = m ≡ told.refused (kind_name e.kind) (code_of e.kind)
 Tells (way.Counted skip most) (Ok (answer.Number n)) m = m ≡ told.counts (pos (told.counted skip most n))
 Tells (way.Grouped space id skip most) (Ok (answer.Number n)) m = m ≡ told.found (string_bytes space) (told.group (view id) (told.counted skip most n))
 Tells way.Made (Ok (answer.Number n)) m = m ≡ told.made n
+Tells (way.Dropped space) (Ok (answer.Number n)) m = m ≡ told.dropped (string_bytes space) n
+Tells (way.Indexed space) (Ok (answer.Number n)) m = m ≡ told.indexes (string_bytes space) n
+Tells (way.Unindexed all) (Ok (answer.Number n)) m = m ≡ told.unindexed all n
 Tells (way.Modified removes) (Ok (answer.Found None)) m = m ≡ told.modified removes false (scalar null)
 Tells (way.Modified removes) (Ok (answer.Found (Some body))) m = (v : Value) × IsMeant body.items v × (m ≡ told.modified removes true v)
 Tells (way.Modified removes) (Ok (answer.NotUpdated i e)) m = m ≡ told.refused (update_name e) (update_code e)
 Tells way.Different (Ok (answer.Values cs counts)) m = m ≡ told.values (items_of (map value_in cs.items))
-Tells (way.Named space) (Ok (answer.Names ns)) m = m ≡ told.found (string_bytes space) (items_of (map (λ (n : String Global). told.collection (string_bytes n)) ns.items))
+Tells (way.Named space only) (Ok (answer.Names ns)) m = m ≡ told.found (string_bytes space) (items_of (told.wanted (option_map string_bytes only) (map string_bytes ns.items)))
 Tells w (Ok a) m = ⊥
 
 -- the document that tells what is kept of changes
@@ -118,7 +126,7 @@ TellsClosed space ids old new m = (ks ms : List Value) × Closes space ids [] []
 
 -- the request puts the documents of these bytes in, all or none
 abbrev pub IsImportOf : List ℕ → Request → Type 0
-IsImportOf bytes (request.Import stream) = stream.items ≡ bytes
+IsImportOf bytes (request.Import stream existing.Refuse) = stream.items ≡ bytes
 IsImportOf bytes r = ⊥
 
 -- the statement does, into this collection
@@ -195,6 +203,79 @@ Follows false ss o ds m = (ds ≡ []) × Tells (way.Modified false) o m
 abbrev pub GoesFound : List Statement → Result Answer StoreError → List Deed → Members → Type 0
 GoesFound ss o ds m = Follows (is_none o) ss o ds m
 
+-- ---- documents that go to another collection
+
+-- the request gives them to the collection of this name
+abbrev pub IsRenameTo : List ℕ → Request → Type 0
+IsRenameTo new (request.Transfer (transfer.Rename t false)) = t.now ≡ new
+IsRenameTo new r = ⊥
+
+-- it was done, of the collection of the first name
+abbrev pub IsRename : List ℕ → List ℕ → Deed → Type 0
+IsRename name new d = (d.name ≡ name) × IsRenameTo new d.request × IfOk d.outcome (IsAnswerTo d.request)
+
+abbrev pub TellsRenamed : Result Answer StoreError → Members → Type 0
+TellsRenamed (Ok a) m = m ≡ done
+TellsRenamed (Err e) m = m ≡ told.refused (kind_name e.kind) (rename_code e.kind)
+
+abbrev pub Renames : List ℕ → List ℕ → List Deed → Members → Type 0
+Renames name new ds m = (d : Deed) × IsRename name new d × (ds ≡ d ∷ []) × TellsRenamed d.outcome m
+
+abbrev pub StartsRename : List ℕ → List ℕ → List Deed → Type 0
+StartsRename name new ds = (d : Deed) × IsRename name new d × (ds ≡ d ∷ [])
+
+-- the documents went into a collection, all of them, or none
+abbrev pub TellsOut : List ℕ → Result Answer StoreError → Members → Type 0
+TellsOut space (Ok (answer.Number n)) m = m ≡ told.found space no_items
+TellsOut space (Ok a) m = ⊥
+TellsOut space (Err e) m = m ≡ told.refused (kind_name e.kind) (code_of e.kind)
+
+abbrev pub PutsOut : List ℕ → List ℕ → List (List ℕ) → List Deed → Members → Type 0
+PutsOut target space bodies ds m = (s : Statement) × (d : Deed) × IsImport target (joined bodies) s × IsDeedOf s d × (ds ≡ d ∷ []) × TellsOut space d.outcome m
+
+-- nothing was found
+abbrev pub TellsUnfound : Result Answer StoreError → Members → Type 0
+TellsUnfound (Ok a) m = ⊥
+TellsUnfound (Err e) m = m ≡ told.refused (kind_name e.kind) (code_of e.kind)
+
+-- behind a find: what was found goes into the collection
+abbrev pub GoesOut : List ℕ → List ℕ → List Statement → Result Answer StoreError → List Deed → Members → Type 0
+GoesOut target space ss (Ok (answer.Documents bodies)) ds m = PutsOut target space (bytes_of_each bodies.items) ds m
+GoesOut target space ss o ds m = (ds ≡ []) × TellsUnfound o m
+
+-- a collection has no documents
+abbrev pub is_vacant : Result Answer StoreError → Bool
+is_vacant (Ok (answer.Number n)) = n == 0
+is_vacant o = false
+
+-- it has some, or that isn't known
+abbrev pub TellsBarred : Result Answer StoreError → Members → Type 0
+TellsBarred (Ok a) m = m ≡ told.refused (codes "$out") code.NamespaceExists
+TellsBarred (Err e) m = m ≡ told.refused (kind_name e.kind) (code_of e.kind)
+
+abbrev pub Enters : Bool → List ℕ → List ℕ → List Statement → Result Answer StoreError → List Deed → Members → Type 0
+Enters true target space ss o ds m = Leads (GoesOut target space) ss ds m
+Enters false target space ss o ds m = (ds ≡ []) × TellsBarred o m
+
+-- behind its count
+abbrev pub GoesIn : List ℕ → List ℕ → List Statement → Result Answer StoreError → List Deed → Members → Type 0
+GoesIn target space ss o ds m = Enters (is_vacant o) target space ss o ds m
+
+-- a beginning of that: the first of the statements was done, and what is behind it begins
+abbrev pub StartsLed : (List Statement → Result Answer StoreError → List Deed → Type 0) → List Statement → List Deed → Type 0
+StartsLed Starts [] ds = ds ≡ []
+StartsLed Starts (s ∷ ss) ds = (ds ≡ []) ⊎ ((d : Deed) × (rest : List Deed) × IsDeedOf s d × (ds ≡ d ∷ rest) × Starts ss d.outcome rest)
+
+abbrev pub StartsPut : List ℕ → List (List ℕ) → List Deed → Type 0
+StartsPut target bodies ds = (ds ≡ []) ⊎ ((s : Statement) × (d : Deed) × IsImport target (joined bodies) s × IsDeedOf s d × (ds ≡ d ∷ []))
+
+abbrev pub StartsOut : List ℕ → List Statement → Result Answer StoreError → List Deed → Type 0
+StartsOut target ss (Ok (answer.Documents bodies)) ds = StartsPut target (bytes_of_each bodies.items) ds
+StartsOut target ss o ds = ds ≡ []
+
+abbrev pub StartsIn : List ℕ → List Statement → Result Answer StoreError → List Deed → Type 0
+StartsIn target ss o ds = StartsLed (StartsOut target) ss ds
+
 -- ---- plans
 
 -- what was done, the document that tells it, and what waits before and behind it
@@ -204,6 +285,8 @@ Carries (plan.One s w) old new ds m = (d : Deed) × IsDeedOf s d × (ds ≡ d �
 Carries (plan.More space id size) old new ds m = (ds ≡ []) × TellsMore (string_bytes space) id size old new m
 Carries (plan.Closes space ids) old new ds m = (ds ≡ []) × TellsClosed (string_bytes space) ids.items old new m
 Carries (plan.Upserts ss) old new ds m = (new ≡ old) × Leads GoesFound ss.items ds m
+Carries (plan.Renames name to) old new ds m = (new ≡ old) × Renames (string_bytes name) (string_bytes to) ds m
+Carries (plan.Outs target space ss) old new ds m = (new ≡ old) × Leads (GoesIn (string_bytes target) (string_bytes space)) ss.items ds m
 Carries (plan.Writes ss stops changed) old new ds m = (new ≡ old) × AreRun stops ss.items ds × (m ≡ told_of changed ds)
 Carries (plan.Inserts name documents stops) old new ds m = (new ≡ old) × Inserts (string_bytes name) (bytes_of_each documents.items) stops ds m
 
@@ -214,6 +297,8 @@ Starts (plan.One s w) ds = Begin (s ∷ []) ds
 Starts (plan.More space id size) ds = ds ≡ []
 Starts (plan.Closes space ids) ds = ds ≡ []
 Starts (plan.Upserts ss) ds = Begin ss.items ds
+Starts (plan.Renames name to) ds = StartsRename (string_bytes name) (string_bytes to) ds
+Starts (plan.Outs target space ss) ds = StartsLed (StartsIn (string_bytes target)) ss.items ds
 Starts (plan.Writes ss stops changed) ds = Begin ss.items ds
 Starts (plan.Inserts name documents stops) ds = StartsInserts (string_bytes name) (bytes_of_each documents.items) ds
 
@@ -237,6 +322,26 @@ LeadsOrStarts Goes ss (Err e) ds = Begin ss ds
 abbrev pub ShowsOrStarts : List Statement → Value → Result Document AllocError → List Deed → Type 0
 ShowsOrStarts ss id (Ok d) ds = Shows ss id ds (content d)
 ShowsOrStarts ss id (Err e) ds = Begin ss ds
+
+abbrev pub RenamesOrStarts : List ℕ → List ℕ → Result Document AllocError → List Deed → Type 0
+RenamesOrStarts name new (Ok d) ds = Renames name new ds (content d)
+RenamesOrStarts name new (Err e) ds = StartsRename name new ds
+
+abbrev pub PutsOr : List ℕ → List ℕ → List (List ℕ) → Result Document AllocError → List Deed → Type 0
+PutsOr target space bodies (Ok d) ds = PutsOut target space bodies ds (content d)
+PutsOr target space bodies (Err e) ds = StartsPut target bodies ds
+
+abbrev pub GoesOr : (List Statement → Result Answer StoreError → List Deed → Members → Type 0) → (List Statement → Result Answer StoreError → List Deed → Type 0) → List Statement → Result Answer StoreError → Result Document AllocError → List Deed → Type 0
+GoesOr Goes Starts ss o (Ok d) ds = Goes ss o ds (content d)
+GoesOr Goes Starts ss o (Err e) ds = Starts ss o ds
+
+abbrev pub LeadsOr : (List Statement → Result Answer StoreError → List Deed → Members → Type 0) → (List Statement → Result Answer StoreError → List Deed → Type 0) → List Statement → Result Document AllocError → List Deed → Type 0
+LeadsOr Goes Starts ss (Ok d) ds = Leads Goes ss ds (content d)
+LeadsOr Goes Starts ss (Err e) ds = StartsLed Starts ss ds
+
+-- the documents of a collection were given to another one, with this outcome
+abbrev pub WasRenamed : List ℕ → List ℕ → Result Answer StoreError → State → State → Type 0
+WasRenamed name new r t u = (d : Deed) × IsRename name new d × (d.outcome ≡ r) × Did (Some d) t u
 
 -- the next statement was done, if there is one
 abbrev pub DidNext : List Statement → List Statement → Option (Result Answer StoreError) → State → State → Type 0

@@ -12,8 +12,8 @@ use Rattle.fallowtime_commands.specs.declared.answer.Answer.{Answer}
 use Rattle.fallowtime_commands.specs.declared.answer.Answer.TheVariants as answer
 use Rattle.fallowtime_session.specs.Deeds.{Deed, Did}
 use Rattle.fallowtime_messages.specs.Answers.{upserted, write_error}
-use Rattle.fallowtime_plans.specs.Codes.{code_of, update_code}
-use Rattle.fallowtime_plans.specs.declared.asked.Statement.{Statement}
+use Rattle.fallowtime_statements.specs.Codes.{code_of, update_code}
+use Rattle.fallowtime_statements.specs.declared.statement.Statement.{Statement}
 use Rattle.fallowtime_messages.specs.declared.writing.Written.{Written}
 
 -- ---- deeds

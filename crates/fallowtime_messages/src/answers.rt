@@ -1,13 +1,15 @@
 //! The documents that commands are answered with.
 
 ghost use Rattle.std.specs.Prelude.{◌≡◌, IfOk, OnOk, codes, is_some, map, pos, string_bytes, unwrap_or};
+ghost use Rattle.bson_base.specs.Value.{item, no_items};
 ghost use Rattle.bson_model.specs.View.{content, items_of, pairs_of, view};
 ghost use Rattle.fallowtime_messages.specs.Answers as answer;
 ghost use Rattle.fallowtime_messages.specs.Answers.{after_changed, after_list};
 
 use bson_base::DoubleBits;
 use bson_model::{Array, Bson, Document};
-use fallowtime_plans::{Code, done, put};
+use fallowtime_plans::done;
+use fallowtime_statements::{Code, put};
 use std::alloc::{AllocError, Global};
 
 /// The answer to `count`.
@@ -272,6 +274,81 @@ pub(crate) fn made(alloc: Global, number: u64) -> Result<Document, AllocError>
     }
     let why = String::from_str(alloc, "create")?;
     refused(alloc, why, Code::NamespaceExists)
+}
+
+/// The answer to `drop` of a collection that had so many documents.
+pub(crate) fn dropped(alloc: Global, namespace: String, number: u64) -> Result<Document, AllocError>
+    ensures { IfOk result (λ d. content d ≡ answer.dropped (string_bytes namespace) number) }
+{
+    if number == 0 {
+        return refused_as(alloc, "ns not found", Code::NamespaceNotFound);
+    }
+    let mut told = Document::new(alloc);
+    put(&mut told, alloc, "nIndexesWas", Bson::Int32(1))?;
+    put(&mut told, alloc, "ns", Bson::String(namespace))?;
+    done(told, alloc)
+}
+
+/// The index of the `_id`, as `listIndexes` tells it.
+fn id_index(alloc: Global) -> Result<Bson, AllocError>
+    ensures { IfOk result (λ v. view v ≡ answer.id_index) }
+{
+    let mut key = Document::new(alloc);
+    put(&mut key, alloc, "_id", Bson::Int32(1))?;
+    let mut told = Document::new(alloc);
+    put(&mut told, alloc, "v", Bson::Int32(2))?;
+    put(&mut told, alloc, "key", Bson::Document(key))?;
+    put(
+        &mut told,
+        alloc,
+        "name",
+        Bson::String(String::from_str(alloc, "_id_")?),
+    )?;
+    Ok(Bson::Document(told))
+}
+
+/// The same as the only item.
+fn id_indexes(alloc: Global) -> Result<Array, AllocError>
+    ensures { IfOk result (λ items. items_of (map view items.items) ≡ item answer.id_index no_items) }
+{
+    let mut items = Vec::new(alloc);
+    let index = id_index(alloc)?;
+    items.push(index)?;
+    Ok(items)
+}
+
+/// The answer to `listIndexes` of a collection with so many documents.
+pub(crate) fn indexes(alloc: Global, namespace: String, number: u64) -> Result<Document, AllocError>
+    ensures { IfOk result (λ d. content d ≡ answer.indexes (string_bytes namespace) number) }
+{
+    if number == 0 {
+        return refused_as(alloc, "ns does not exist", Code::NamespaceNotFound);
+    }
+    let items = id_indexes(alloc)?;
+    found(alloc, namespace, items)
+}
+
+/// The answer to `dropIndexes` of a collection with so many documents: whether of all its indexes.
+pub(crate) fn unindexed(alloc: Global, all: bool, number: u64) -> Result<Document, AllocError>
+    ensures { IfOk result (λ d. content d ≡ answer.unindexed all number) }
+{
+    if number == 0 {
+        return refused_as(alloc, "ns not found", Code::NamespaceNotFound);
+    }
+    if !all {
+        return refused_as(alloc, "index not found", Code::IndexNotFound);
+    }
+    let mut told = Document::new(alloc);
+    put(&mut told, alloc, "nIndexesWas", Bson::Int32(1))?;
+    done(told, alloc)
+}
+
+/// The answer to a command that wasn't done, for a reason that is a text of its own.
+pub(crate) fn refused_as(alloc: Global, why: &str, code: Code) -> Result<Document, AllocError>
+    ensures { IfOk result (λ d. content d ≡ answer.refused why.now code) }
+{
+    let why = String::from_str(alloc, why)?;
+    refused(alloc, why, code)
 }
 
 /// The answer to a command that wasn't done.

@@ -3,16 +3,18 @@
 ghost use Rattle.std.specs.Prelude.{◌≡◌, IfOk, OnOk, map};
 ghost use Rattle.bson_model.specs.View.{content, view};
 ghost use Rattle.bson_store.specs.Export.{bytes_of_each};
-ghost use Rattle.fallowtime_cursors.specs.Waiting.{waiting};
+ghost use Rattle.fallowtime_messages.specs.Waiting.{waiting};
 ghost use Rattle.fallowtime_messages.specs.Outcomes.{Closes, TellsBatch, TellsBy, TellsClosed, TellsDocuments, TellsFound, TellsMore, batch_key, with_number};
 
 use crate::answers::{closed, first_batch, next_batch, refused};
+use crate::batch::Batch;
+use crate::cursors::Cursors;
 use crate::telling::{items_of_each, tell};
 use bson_model::{Array, Bson, Document};
 use bson_store::StoreError;
 use fallowtime_commands::Answer;
-use fallowtime_cursors::{Batch, Cursors};
-use fallowtime_plans::{Code, Way, code_of};
+use fallowtime_plans::Way;
+use fallowtime_statements::{Code, code_of};
 use std::alloc::{AllocError, Global};
 use std::mem::replace;
 

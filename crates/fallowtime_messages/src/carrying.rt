@@ -1,24 +1,25 @@
 //! What a command asks, done on a store.
 
-ghost use Rattle.std.specs.Prelude.{◌≡◌, IfOk, List, string_bytes};
-ghost use Rattle.std.specs.List.{AllZip};
+ghost use Rattle.std.specs.Prelude.{◌≡◌, List, string_bytes};
 ghost use Rattle.bson_store.specs.Calls.{store_state};
 ghost use Rattle.bson_store.specs.Export.{bytes_of_each};
-ghost use Rattle.fallowtime_cursors.specs.Waiting.{Wait, waiting};
+ghost use Rattle.fallowtime_messages.specs.Waiting.{Wait, waiting};
 ghost use Rattle.fallowtime_messages.specs.Done.{DoesAll};
-ghost use Rattle.fallowtime_messages.specs.Outcomes.{CarriesOrStarts, InsertsOrStarts, IsImport, PutsAll, joined, number_of};
+ghost use Rattle.fallowtime_messages.specs.Outcomes.{CarriesOrStarts, InsertsOrStarts, PutsAll, number_of};
 ghost use Rattle.fallowtime_plans.specs.declared.asked.Plan.TheVariants as plans;
 
 use crate::batches::{tell_by, tell_closed, tell_more};
+use crate::cursors::Cursors;
+use crate::importing::{import_all, imports};
+use crate::moving::{carry_out, carry_rename};
 use crate::telling::{tell_inserted, tell_written};
 use crate::upserting::carry_upsert;
 use crate::writing::{discard, perform_statement, write_all};
 use bson_model::Document;
 use bson_store::{Store, StoreError};
 use fallowtime_commands::Answer;
-use fallowtime_cursors::Cursors;
-use fallowtime_plans::{Plan, Statement, Way, copy_of};
-use fallowtime_requests::Request;
+use fallowtime_plans::{Plan, Way};
+use fallowtime_statements::Statement;
 use sqlite::Alter;
 use std::alloc::{AllocError, Global};
 
@@ -36,57 +37,6 @@ fn carry_one<S: Alter + Drop>(
     let mut outcome = perform_statement(alloc, store, &mut statement);
     discard(statement);
     tell_by(alloc, cursors, way, &mut outcome)
-}
-
-/// The bytes of documents, one after the other.
-fn joined(alloc: Global, documents: &[Vec<u8>]) -> Result<Vec<u8>, AllocError>
-    ensures { IfOk result (λ stream. stream.items ≡ joined (bytes_of_each documents.now)) }
-{
-    let mut stream = Vec::new(alloc);
-    for document in documents {
-        stream.extend_from_slice(document.as_slice())?;
-    }
-    Ok(stream)
-}
-
-/// What puts the documents of a stream into a collection.
-fn import_of(alloc: Global, name: &String, stream: Vec<u8>) -> Result<Statement, AllocError>
-    ensures { IfOk result (IsImport (string_bytes name.now) stream.items) }
-{
-    Ok(Statement {
-        name: String::from_str(alloc, name.as_str())?,
-        request: Request::Import(stream),
-    })
-}
-
-/// What puts all documents into a collection at once.
-fn import_all(alloc: Global, name: &String, documents: &[Vec<u8>]) -> Result<Statement, AllocError>
-    ensures { IfOk result (IsImport (string_bytes name.now) (joined (bytes_of_each documents.now))) }
-{
-    import_of(alloc, name, joined(alloc, documents)?)
-}
-
-/// What puts a document into a collection.
-fn import_one(alloc: Global, name: &String, document: &[u8]) -> Result<Statement, AllocError>
-    ensures { IfOk result (IsImport (string_bytes name.now) document.now) }
-{
-    import_of(alloc, name, copy_of(alloc, document)?)
-}
-
-/// What puts each document into a collection.
-fn imports(
-    alloc: Global,
-    name: &String,
-    documents: &[Vec<u8>],
-) -> Result<Vec<Statement>, AllocError>
-    ensures { IfOk result (λ list. AllZip (λ b. IsImport (string_bytes name.now) b.items) documents.now list.items) }
-{
-    let mut list = Vec::new(alloc);
-    for document in documents {
-        let statement = import_one(alloc, name, document.as_slice())?;
-        list.push(statement)?;
-    }
-    Ok(list)
 }
 
 /// How many documents were put in, if they were.
@@ -168,6 +118,10 @@ pub(crate) fn carry<S: Alter + Drop>(
             carry_writes(alloc, store, statements, stops, told_changed)
         }
         Plan::Upserts(statements) => carry_upsert(alloc, store, statements),
+        Plan::Renames(name, new) => carry_rename(alloc, store, name.as_str(), new.as_str()),
+        Plan::Outs(target, space, statements) => {
+            carry_out(alloc, store, statements, &target, &space)
+        }
         Plan::Inserts(name, documents, stops) => {
             carry_inserts(alloc, store, &name, documents.as_slice(), stops)
         }

@@ -9,7 +9,7 @@ ghost use Rattle.bson_message.specs.Replies.{msg_bytes, reply_bytes};
 ghost use Rattle.bson_model.specs.View.{content};
 ghost use Rattle.bson_raw.specs.View.{bytes_of};
 ghost use Rattle.bson_store.specs.Calls.{store_state};
-ghost use Rattle.fallowtime_cursors.specs.Waiting.{waiting};
+ghost use Rattle.fallowtime_messages.specs.Waiting.{waiting};
 ghost use Rattle.fallowtime_messages.specs.Answers as told;
 ghost use Rattle.fallowtime_messages.specs.Done.{DoesAll};
 ghost use Rattle.fallowtime_messages.specs.Outcomes.{Comes, TellsFault, told_by};
@@ -17,14 +17,15 @@ ghost use Rattle.fallowtime_messages.specs.Serving.{ComesOfMsg, ComesOfQuery, Is
 
 use crate::answers::{no_room, refused};
 use crate::carrying::carry;
+use crate::cursors::Cursors;
 use bson_bytes::encode_document;
 use bson_frame::ErrorKind;
 use bson_message::{Body, OpMsg, OpQuery, Sequence, message_of, old_reply, reply};
 use bson_model::Document;
 use bson_raw::RawDocument;
 use bson_store::Store;
-use fallowtime_cursors::Cursors;
-use fallowtime_plans::{Code, Fault, Name, first_key, hello, name_of, plan};
+use fallowtime_plans::{hello, plan};
+use fallowtime_statements::{Code, Fault, Name, first_key, name_of};
 use fallowtime_texts::IdMaker;
 use sqlite::Alter;
 use std::alloc::{AllocError, Global};

@@ -1,7 +1,8 @@
 //! The documents that tell what the store returned.
 
-ghost use Rattle.std.specs.Prelude.{◌≡◌, IfOk, Ok, Some, String as AnyString, false, map, pos, string_bytes};
+ghost use Rattle.std.specs.Prelude.{◌≡◌, ◌++◌, IfOk, Ok, OnOk, Some, false, map, pos, string_bytes};
 ghost use Rattle.std.specs.List.{AllZip};
+ghost use Rattle.std.specs.Option.{option_map};
 ghost use Rattle.bson_base.specs.Value.{no_items};
 ghost use Rattle.bson_bytes.specs.Spells.{Means};
 ghost use Rattle.bson_model.specs.View.{content, items_of, view};
@@ -11,16 +12,19 @@ ghost use Rattle.fallowtime_messages.specs.Answers.{counted};
 ghost use Rattle.fallowtime_messages.specs.Answers as told;
 ghost use Rattle.fallowtime_messages.specs.Outcomes.{IsMeant, Tells, TellsWritten};
 ghost use Rattle.fallowtime_plans.specs.declared.asked.Way.TheVariants as ways;
-ghost use Rattle.std.specs.declared.alloc.Global.{Global as Allocator};
 ghost use Rattle.store_distinct.specs.Counted.{value_in};
 
-use crate::answers::{collection, counts, found, group, made, modified, refused, values, written};
+use crate::answers::{
+    collection, counts, dropped, found, group, indexes, made, modified, refused, unindexed, values,
+    written,
+};
 use crate::writing::Written;
 use bson_model::{Array, Bson, Document};
 use bson_raw::RawDocument;
 use bson_store::StoreError;
 use fallowtime_commands::{Answer, update_name};
-use fallowtime_plans::{Way, code_of, update_code};
+use fallowtime_plans::Way;
+use fallowtime_statements::{code_of, update_code};
 use std::alloc::{AllocError, Global};
 use store_distinct::Counted;
 use store_update::UpdateError;
@@ -86,7 +90,7 @@ pub(crate) fn items_of_each(alloc: Global, bodies: &[Vec<u8>]) -> Result<Array, 
 }
 
 /// A copy of the name of a collection behind that of its database.
-fn copied(alloc: Global, space: &String) -> Result<String, AllocError>
+pub(crate) fn copied(alloc: Global, space: &String) -> Result<String, AllocError>
     ensures { IfOk result (λ t. string_bytes t ≡ string_bytes space.now) }
 {
     String::from_str(alloc, space.as_str())
@@ -124,6 +128,9 @@ fn tell_number(alloc: Global, way: &Way, number: u64) -> Result<Document, AllocE
             tell_group(alloc, space, id, counted(*skip, *most, number))
         }
         Way::Made => made(alloc, number),
+        Way::Dropped(space) => dropped(alloc, copied(alloc, space)?, number),
+        Way::Indexed(space) => indexes(alloc, copied(alloc, space)?, number),
+        Way::Unindexed(all) => unindexed(alloc, *all, number),
         _ => Err(AllocError),
     }
 }
@@ -204,14 +211,39 @@ fn tell_values(
     }
 }
 
-/// The collections of these names.
-fn collections(alloc: Global, names: &[String]) -> Result<Array, AllocError>
-    ensures { IfOk result (λ items. map view items.items ≡ map (λ (n : AnyString Allocator). told.collection (string_bytes n)) names.now) }
+/// Whether a collection is told: if all are, or this one alone.
+fn is_wanted(only: &Option<String>, name: &str) -> bool
+    ensures { result ≡ told.is_wanted (option_map string_bytes only.now) name.now }
+{
+    match only {
+        Some(only) => name == only.as_str(),
+        None => true,
+    }
+}
+
+/// Adds a collection to others, if it is told.
+fn push_collection(
+    alloc: Global,
+    only: &Option<String>,
+    name: &str,
+    items: &mut Array,
+) -> Result<(), AllocError>
+    ensures { OnOk result (map view items.new.items ≡ map view items.old.items ++ told.told_if (told.is_wanted (option_map string_bytes only.now) name.now) name.now) }
+{
+    if is_wanted(only, name) {
+        let item = collection(alloc, name)?;
+        items.push(item)?;
+    }
+    Ok(())
+}
+
+/// The collections of these names that are told.
+fn collections(alloc: Global, only: &Option<String>, names: &[String]) -> Result<Array, AllocError>
+    ensures { IfOk result (λ items. map view items.items ≡ told.wanted (option_map string_bytes only.now) (map string_bytes names.now)) }
 {
     let mut items = Vec::new(alloc);
     for name in names {
-        let item = collection(alloc, name.as_str())?;
-        items.push(item)?;
+        push_collection(alloc, only, name.as_str(), &mut items)?;
     }
     Ok(items)
 }
@@ -221,9 +253,9 @@ fn tell_names(alloc: Global, way: &Way, names: &Vec<String>) -> Result<Document,
     ensures { IfOk result (λ d. Tells way.now (Ok (answer.Names names.now)) (content d)) }
 {
     match way {
-        Way::Named(space) => {
+        Way::Named(space, only) => {
             let name = copied(alloc, space)?;
-            let items = collections(alloc, names.as_slice())?;
+            let items = collections(alloc, only, names.as_slice())?;
             found(alloc, name, items)
         }
         _ => Err(AllocError),

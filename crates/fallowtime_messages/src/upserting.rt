@@ -5,7 +5,7 @@ ghost use Rattle.std.specs.Vec.Iter.{into_iter_items};
 ghost use Rattle.bson_model.specs.View.{content, view};
 ghost use Rattle.bson_store.specs.Calls.{store_state};
 ghost use Rattle.bson_store.specs.Export.{bytes_of_each};
-ghost use Rattle.fallowtime_cursors.specs.Waiting.{Wait};
+ghost use Rattle.fallowtime_messages.specs.Waiting.{Wait};
 ghost use Rattle.fallowtime_messages.specs.Done.{DoesAll};
 ghost use Rattle.fallowtime_messages.specs.Outcomes.{CarriesOrStarts, DidNext, GoesFound, GoesOrStarts, GoesPut, LeadsOrStarts, ShowsOrStarts, TellsFirst, TellsNotPut, TellsShown, is_none};
 ghost use Rattle.fallowtime_plans.specs.declared.asked.Plan.TheVariants as plans;
@@ -16,13 +16,14 @@ use crate::writing::{discard, perform_statement};
 use bson_model::{Bson, Document};
 use bson_store::{Store, StoreError};
 use fallowtime_commands::{Answer, update_name};
-use fallowtime_plans::{Statement, Way, code_of, update_code};
+use fallowtime_plans::Way;
+use fallowtime_statements::{Statement, code_of, update_code};
 use sqlite::Alter;
 use std::alloc::{AllocError, Global};
 use std::vec::IntoIter;
 
 /// Does the next statement, if there is one.
-fn perform_next<S: Alter + Drop>(
+pub(crate) fn perform_next<S: Alter + Drop>(
     alloc: Global,
     store: &mut Store<S>,
     rest: &mut IntoIter<Statement>,

@@ -12,7 +12,7 @@ use crate::answers::{upserted, write_error};
 use bson_model::Bson;
 use bson_store::{Store, StoreError};
 use fallowtime_commands::{Answer, perform, update_name};
-use fallowtime_plans::{Statement, code_of, update_code};
+use fallowtime_statements::{Statement, code_of, update_code};
 use sqlite::Alter;
 use std::alloc::{AllocError, Global};
 

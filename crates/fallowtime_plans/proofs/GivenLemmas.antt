@@ -9,8 +9,8 @@ use Rattle.bson_model.specs.View.{items_of, view}
 use Rattle.bson_model.specs.declared.bson.Bson.{Bson}
 use Rattle.bson_store.specs.Export.{bytes_of_each}
 use Rattle.fallowtime_plans.specs.Plans.{AreGiven, IsWritten}
-use Rattle.fallowtime_plans.specs.declared.fault.Fault.{Fault}
-use Rattle.fallowtime_plans.proofs.ListLemmas.{zip_seen}
+use Rattle.fallowtime_statements.specs.declared.fault.Fault.{Fault}
+use Rattle.fallowtime_statements.proofs.ListLemmas.{zip_seen}
 
 module _ (key : List ℕ) (ms : Members) where
   pub given_array : (r : Result (Vec (Vec ℕ Global) Global) Fault) (xs : List Bson) → look_up key ms ≡ Some (array (items_of (map view xs))) → IfOk r (λ list. AllZip (λ (v : Bson) (b : Vec ℕ Global). IsWritten (view v) b.items) xs list.items)

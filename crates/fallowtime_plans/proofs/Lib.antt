@@ -1,10 +1,3 @@
-pub mod ValueLemmas
-pub mod ListLemmas
-pub mod LineLemmas
-pub mod ChangeLemmas
-pub mod CountLemmas
-pub mod FindLemmas
-pub mod ModifyLemmas
 pub mod PlanLemmas
 pub mod GivenLemmas
 pub mod WriteLemmas

@@ -2,14 +2,14 @@
 use Rattle.std.proofs.Common.{◌≡◌, inl, inr, ℕ, List, [], Some, None, Result, Ok, Err, IfOk, MatchResult, sym, ◌∙◌, ap}
 use Rattle.bson_base.specs.Value.{Members}
 use Rattle.bson_message.specs.declared.section.Sequence.{Sequence}
-use Rattle.fallowtime_plans.specs.Faults.{IsAbout}
-use Rattle.fallowtime_plans.specs.Fields.{AreAllowed, IsForbidden, first_key, named}
+use Rattle.fallowtime_statements.specs.Faults.{IsAbout}
+use Rattle.fallowtime_statements.specs.Fields.{AreAllowed, IsForbidden, first_key, named}
 use Rattle.fallowtime_plans.specs.Plans.{Asks, AsksBy, IsRefused}
 use Rattle.fallowtime_plans.specs.declared.asked.Plan.{Plan}
-use Rattle.fallowtime_plans.specs.declared.fault.Code.TheVariants as code
-use Rattle.fallowtime_plans.specs.declared.fault.Fault.{Fault}
-use Rattle.fallowtime_plans.specs.declared.fault.Fault.TheVariants.{Memory, Refused}
-use Rattle.fallowtime_plans.specs.declared.name.Name.{Name}
+use Rattle.fallowtime_statements.specs.declared.fault.Code.TheVariants as code
+use Rattle.fallowtime_statements.specs.declared.fault.Fault.{Fault}
+use Rattle.fallowtime_statements.specs.declared.fault.Fault.TheVariants.{Memory, Refused}
+use Rattle.fallowtime_statements.specs.declared.name.Name.{Name}
 
 module _ (ms : Members) where
   pub no_key : (f : Fault) → None ≡ first_key ms → IsAbout code.CommandNotFound [] f → IsRefused ms f

@@ -10,12 +10,12 @@ use Rattle.bson_model.specs.declared.extjson.ser.Mode.TheVariants.{Relaxed}
 use Rattle.bson_store.specs.Export.{bytes_of_each}
 use Rattle.fallowtime_words.specs.declared.command.Command.TheVariants as command
 use Rattle.fallowtime_plans.specs.Batches.{AreNumbers}
-use Rattle.fallowtime_plans.specs.Counting.{CountsIn}
-use Rattle.fallowtime_plans.specs.Lines.{IsLine, IsTruth, IsWhole, line_of_two}
+use Rattle.fallowtime_statements.specs.Counting.{CountsIn}
+use Rattle.fallowtime_statements.specs.Lines.{IsLine, IsTruth, IsWhole, line_of_two}
 use Rattle.fallowtime_plans.specs.Plans.{AreGiven, AsksGroup, AsksWrites, IsOf, namespace}
-use Rattle.fallowtime_plans.specs.declared.asked.Statement.{Statement}
-use Rattle.fallowtime_plans.specs.declared.fault.Fault.{Fault}
-use Rattle.fallowtime_plans.proofs.ListLemmas.{zip_seen_left}
+use Rattle.fallowtime_statements.specs.declared.statement.Statement.{Statement}
+use Rattle.fallowtime_statements.specs.declared.fault.Fault.{Fault}
+use Rattle.fallowtime_statements.proofs.ListLemmas.{zip_seen_left}
 
 -- a pipeline that counts
 pub asks_group : (db n space : List ℕ) (ms q : Members) (vs : Items) (s : Statement) (id : Value) (skip most : ℕ) → IsOf db (codes "aggregate") ms n → CountsIn (look_up (codes "pipeline") ms) q skip most id → vs ≡ line_of_two n q → IsLine Relaxed command.Count vs s → space ≡ namespace db n

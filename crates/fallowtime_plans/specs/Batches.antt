@@ -1,9 +1,9 @@
 -- How many documents are told at once (MongoDB's manual, "find", "aggregate", "getMore", "killCursors").
 use Rattle.std.specs.Prelude.{◌≡◌, ℤ, pos, ℕ, List, codes, Option, Some, None}
 use Rattle.std.specs.List.{AllZip}
-use Rattle.bson_base.specs.Value.{Members, Value, array, document, look_up}
+use Rattle.bson_base.specs.Value.{Value, array, document, look_up}
 use Rattle.bson_model.specs.View.{items_of}
-use Rattle.fallowtime_plans.specs.Lines.{IsWhole, most_of}
+use Rattle.fallowtime_statements.specs.Lines.{IsWhole, most_of}
 
 -- in a first batch: 101 if that isn't said
 abbrev pub IsSize : Option Value → ℕ → Type 0

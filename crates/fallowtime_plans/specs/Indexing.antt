@@ -1,10 +1,11 @@
--- The indexes of `createIndexes` that change no answer (MongoDB's manual, "createIndexes").
-use Rattle.std.specs.Prelude.{◌≡◌, ◌&&◌, Bool, true, false, List, codes, Option, Some}
+-- The indexes of `createIndexes` that change no answer, and those that `dropIndexes` names (MongoDB's manual, the page of each).
+use Rattle.std.specs.Prelude.{◌≡◌, ◌&&◌, ℕ, Bool, true, false, List, codes, Option, Some}
 use Rattle.std.specs.List.{AllByRecursion}
-use Rattle.bson_base.specs.Value.{Value, Members, array, document, double, int32, int64, look_up, member, no_members, scalar}
+use Rattle.std.specs.Str.{bytes_eq}
+use Rattle.bson_base.specs.Value.{Value, Members, array, document, double, int32, int64, look_up, member, no_members, scalar, string}
 use Rattle.bson_model.specs.View.{items_of}
-use Rattle.fallowtime_plans.specs.Fields.{AreAllowed}
-use Rattle.fallowtime_plans.specs.declared.name.Name.TheVariants as name
+use Rattle.fallowtime_statements.specs.Fields.{AreAllowed}
+use Rattle.fallowtime_statements.specs.declared.name.Name.TheVariants as name
 
 -- an order by numbers: texts are those of kinds of indexes, as "text" and "hashed"
 abbrev pub is_number : Value → Bool
@@ -28,3 +29,7 @@ IsPlainIndex v = ⊥
 
 abbrev pub ArePlainIndexes : Option Value → Type 0
 ArePlainIndexes indexes = (vs : List Value) × (indexes ≡ Some (array (items_of vs))) × AllByRecursion IsPlainIndex vs
+
+-- all indexes are to go but that of the `_id`, or one that has another name
+abbrev pub IsToGo : Option Value → Bool → Type 0
+IsToGo index all = (t : List ℕ) × (index ≡ Some (scalar (string t))) × (bytes_eq t (codes "_id_") ≡ false) × (all ≡ bytes_eq t (codes "*"))

@@ -1,12 +1,4 @@
-pub mod Codes
-pub mod Faults
-pub mod Fields
-pub mod Lines
-pub mod Changes
-pub mod Counting
-pub mod Finding
 pub mod Indexing
 pub mod Batches
-pub mod Modifying
 pub mod Told
 pub mod Plans

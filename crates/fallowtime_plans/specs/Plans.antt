@@ -1,7 +1,9 @@
 -- What a command asks of the store, and how it is answered.
-use Rattle.std.specs.Prelude.{◌≡◌, ◌⊎◌, ℕ, Bool, true, false, List, [], ◌∷◌, ◌++◌, codes, Some, None, string_bytes}
+use Rattle.std.specs.Prelude.{◌≡◌, ◌⊎◌, ℕ, Bool, true, false, List, [], ◌∷◌, ◌++◌, codes, Option, Some, None, string_bytes}
 use Rattle.std.specs.List.{AllZip}
-use Rattle.bson_base.specs.Value.{Value, Items, Members, array, document, look_up, no_items, scalar, string}
+use Rattle.std.specs.Option.{option_map}
+use Rattle.std.specs.Str.{bytes_eq}
+use Rattle.bson_base.specs.Value.{Value, Members, array, document, look_up, no_items, scalar, string}
 use Rattle.bson_bytes.specs.Encode.{encode}
 use Rattle.bson_message.specs.Parts.{AreDocuments}
 use Rattle.bson_message.specs.declared.section.Sequence.{Sequence}
@@ -10,23 +12,23 @@ use Rattle.bson_model.specs.declared.extjson.ser.Mode.TheVariants.{Relaxed}
 use Rattle.bson_store.specs.Export.{bytes_of_each}
 use Rattle.fallowtime_words.specs.declared.command.Command.TheVariants as command
 use Rattle.fallowtime_plans.specs.Batches.{AreNumbers, IsFurther, IsSize, IsSizeIn}
-use Rattle.fallowtime_plans.specs.Changes.{IsChangeOf, IsRemovalOf}
-use Rattle.fallowtime_plans.specs.Counting.{CountsIn}
-use Rattle.fallowtime_plans.specs.Fields.{AreAllowed, IsForbidden, first_key, named}
-use Rattle.fallowtime_plans.specs.Finding.{FindsIn}
-use Rattle.fallowtime_plans.specs.Indexing.{ArePlainIndexes}
-use Rattle.fallowtime_plans.specs.Lines.{IsCount, IsFind, IsLine, IsPart, IsTruth, IsWhole, line_of_two}
-use Rattle.fallowtime_plans.specs.Modifying.{IsDistinct, IsFindAndModify, IsUpsert}
+use Rattle.fallowtime_statements.specs.Changes.{IsChangeOf, IsRemovalOf}
+use Rattle.fallowtime_statements.specs.Counting.{CountsIn, operand_of}
+use Rattle.fallowtime_statements.specs.Fields.{AreAllowed, IsForbidden, first_key, is_empty, named}
+use Rattle.fallowtime_statements.specs.Finding.{FindsIn}
+use Rattle.fallowtime_plans.specs.Indexing.{ArePlainIndexes, IsToGo}
+use Rattle.fallowtime_statements.specs.Lines.{IsCount, IsFind, IsLine, IsPart, IsTruth, IsWhole, line_of_one, line_of_two}
+use Rattle.fallowtime_statements.specs.Modifying.{IsDistinct, IsFindAndModify, IsUpsert}
 use Rattle.fallowtime_plans.specs.Told as told
 use Rattle.fallowtime_plans.specs.declared.asked.Plan.{Plan}
 use Rattle.fallowtime_plans.specs.declared.asked.Plan.TheVariants as plan
-use Rattle.fallowtime_plans.specs.declared.asked.Statement.{Statement}
+use Rattle.fallowtime_statements.specs.declared.statement.Statement.{Statement}
 use Rattle.fallowtime_plans.specs.declared.asked.Way.TheVariants as way
-use Rattle.fallowtime_plans.specs.declared.fault.Code.TheVariants as code
-use Rattle.fallowtime_plans.specs.declared.fault.Fault.{Fault}
-use Rattle.fallowtime_plans.specs.declared.fault.Fault.TheVariants.{Memory, Refused}
-use Rattle.fallowtime_plans.specs.declared.name.Name.{Name}
-use Rattle.fallowtime_plans.specs.declared.name.Name.TheVariants as name
+use Rattle.fallowtime_statements.specs.declared.fault.Code.TheVariants as code
+use Rattle.fallowtime_statements.specs.declared.fault.Fault.{Fault}
+use Rattle.fallowtime_statements.specs.declared.fault.Fault.TheVariants.{Memory, Refused}
+use Rattle.fallowtime_statements.specs.declared.name.Name.{Name}
+use Rattle.fallowtime_statements.specs.declared.name.Name.TheVariants as name
 
 -- the command is of the collection n of this database
 abbrev pub IsOf : List ℕ → List ℕ → Members → List ℕ → Type 0
@@ -35,6 +37,17 @@ IsOf db key ms n = (look_up (codes "$db") ms ≡ Some (scalar (string db))) × (
 -- the name of a collection behind that of its database
 abbrev pub namespace : List ℕ → List ℕ → List ℕ
 namespace db n = db ++ (codes "." ++ n)
+
+-- a value is that of the collection n
+abbrev pub IsSpace : List ℕ → Option Value → List ℕ → Type 0
+IsSpace db v n = v ≡ Some (scalar (string (namespace db n)))
+
+-- a filter of collections lets all through, or one alone, by its name
+abbrev pub IsWanted : Option Value → Option (List ℕ) → Type 0
+IsWanted None None = Unit {0}
+IsWanted None (Some n) = ⊥
+IsWanted (Some v) None = is_empty v ≡ true
+IsWanted (Some v) (Some n) = operand_of (codes "name") v ≡ Some (scalar (string n))
 
 -- ---- lists
 
@@ -64,7 +77,27 @@ AsksGroup db ms space id skip most s =
 
 -- a pipeline that finds is the line of `find`
 abbrev pub AsksFinding : List ℕ → Members → List ℕ → Statement → Type 0
-AsksFinding db ms space s = (n : List ℕ) × (parts : Members) × IsOf db (codes "aggregate") ms n × FindsIn (look_up (codes "pipeline") ms) parts × IsFind parts n s × (space ≡ namespace db n)
+AsksFinding db ms space s = (n : List ℕ) × (parts : Members) × IsOf db (codes "aggregate") ms n × FindsIn (look_up (codes "pipeline") ms) parts × (look_up (codes "out") parts ≡ None) × IsFind parts n s × (space ≡ namespace db n)
+
+-- what is found goes into a collection: a count of that, and the line of `find`
+abbrev pub AreOut : Members → List ℕ → List ℕ → List Statement → Type 0
+AreOut parts n target (count ∷ find ∷ []) = IsCount None target count × IsFind parts n find
+AreOut parts n target ss = ⊥
+
+abbrev pub is_text : List ℕ → Option Value → Bool
+is_text text (Some (scalar (string own))) = bytes_eq own text
+is_text text v = false
+
+-- a `readConcern` that no pipeline may have which writes
+abbrev pub is_linear : Option Value → Bool
+is_linear (Some (document ms)) = is_text (codes "linearizable") (look_up (codes "level") ms)
+is_linear v = false
+
+-- a pipeline that ends with `{$out: TARGET}`
+abbrev pub AsksOut : List ℕ → Members → List ℕ → List ℕ → List Statement → Type 0
+AsksOut db ms target space ss =
+    (n : List ℕ) × (parts : Members) × IsOf db (codes "aggregate") ms n × FindsIn (look_up (codes "pipeline") ms) parts × (look_up (codes "out") parts ≡ Some (scalar (string target)))
+    × (is_linear (look_up (codes "readConcern") ms) ≡ false) × AreOut parts n target ss × (space ≡ namespace db n)
 
 abbrev pub AsksBy : Name → List ℕ → Members → List Sequence → Plan → Type 0
 AsksBy name.Hello db ms ss (plan.Told d) = content d ≡ told.hello
@@ -79,6 +112,7 @@ AsksBy name.Update db ms ss (plan.Writes list ordered changed) = AsksWrites IsCh
 AsksBy name.Delete db ms ss (plan.Writes list ordered changed) = AsksWrites IsRemovalOf db (codes "delete") (codes "deletes") ms ss list.items ordered × (changed ≡ false)
 AsksBy name.Aggregate db ms ss (plan.One s (way.Grouped space id skip most)) = AsksGroup db ms (string_bytes space) (view id) skip most s
 AsksBy name.Aggregate db ms ss (plan.One s (way.Found space size single)) = AsksFinding db ms (string_bytes space) s × IsSizeIn (look_up (codes "cursor") ms) size × (single ≡ false)
+AsksBy name.Aggregate db ms ss (plan.Outs target space list) = AsksOut db ms (string_bytes target) (string_bytes space) list.items
 AsksBy name.FindAndModify db ms ss (plan.One s (way.Modified removes)) =
     (n : List ℕ) × IsOf db (codes "findAndModify") ms n × IsTruth false (look_up (codes "remove") ms) removes
     × IsTruth false (look_up (codes "upsert") ms) false × IsFindAndModify removes ms n s
@@ -86,9 +120,15 @@ AsksBy name.FindAndModify db ms ss (plan.Upserts list) =
     (n : List ℕ) × IsOf db (codes "findAndModify") ms n × IsTruth false (look_up (codes "remove") ms) false
     × IsTruth false (look_up (codes "upsert") ms) true × IsUpsert ms n list.items
 AsksBy name.Distinct db ms ss (plan.One s way.Different) = (n : List ℕ) × IsOf db (codes "distinct") ms n × IsDistinct ms n s
-AsksBy name.ListCollections db ms ss (plan.One s (way.Named space)) =
+AsksBy name.ListCollections db ms ss (plan.One s (way.Named space only)) =
     (look_up (codes "$db") ms ≡ Some (scalar (string db))) × IsLine Relaxed command.Collections no_items s × (string_bytes space ≡ namespace db (codes "$cmd.listCollections"))
+    × IsWanted (look_up (codes "filter") ms) (option_map string_bytes only)
 AsksBy name.Create db ms ss (plan.One s way.Made) = (n : List ℕ) × IsOf db (codes "create") ms n × IsCount None n s
+AsksBy name.Drop db ms ss (plan.One s (way.Dropped space)) = (n : List ℕ) × IsOf db (codes "drop") ms n × IsLine Relaxed command.Drop (line_of_one n) s × (string_bytes space ≡ namespace db n)
+AsksBy name.RenameCollection db ms ss (plan.Renames n new) =
+    (look_up (codes "$db") ms ≡ Some (scalar (string (codes "admin")))) × IsSpace db (look_up (codes "renameCollection") ms) (string_bytes n) × IsSpace db (look_up (codes "to") ms) (string_bytes new)
+AsksBy name.ListIndexes db ms ss (plan.One s (way.Indexed space)) = (n : List ℕ) × IsOf db (codes "listIndexes") ms n × IsCount None n s × (string_bytes space ≡ namespace db n)
+AsksBy name.DropIndexes db ms ss (plan.One s (way.Unindexed all)) = (n : List ℕ) × IsOf db (codes "dropIndexes") ms n × IsCount None n s × IsToGo (look_up (codes "index") ms) all
 AsksBy name.CreateIndexes db ms ss (plan.Told d) = (n : List ℕ) × IsOf db (codes "createIndexes") ms n × ArePlainIndexes (look_up (codes "indexes") ms) × (content d ≡ told.indexed)
 AsksBy name.ListDatabases db ms ss (plan.Told d) = content d ≡ told.databases db
 AsksBy name.GetMore db ms ss (plan.More space id size) =

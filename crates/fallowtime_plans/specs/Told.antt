@@ -1,6 +1,6 @@
 -- Documents that commands are answered with that ask nothing of a store (MongoDB's manual, the page of each command).
 use Rattle.std.specs.Prelude.{ℕ, pos, false, true, List, codes}
-use Rattle.bson_base.specs.Value.{Value, Items, Members, array, boolean, document, double, int32, item, member, no_items, no_members, scalar, string}
+use Rattle.bson_base.specs.Value.{Value, Members, array, boolean, document, double, int32, item, member, no_items, no_members, scalar, string}
 
 -- a command that was done ends its answer so: the double 1.0
 abbrev pub done : Members

@@ -1,16 +1,7 @@
 //! What a command asks of the store.
 
 use bson_model::{Bson, Document};
-use fallowtime_requests::Request;
-
-/// What is asked of one collection.
-#[derive(Drop)]
-pub struct Statement {
-    /// The collection.
-    pub name: String,
-    /// What is requested of it.
-    pub request: Request<'static>,
-}
+use fallowtime_statements::Statement;
 
 /// How what the store returns is told.
 #[derive(Drop)]
@@ -27,8 +18,15 @@ pub enum Way {
     Modified(bool),
     /// Different values.
     Different,
-    /// The names of collections, as those of a batch with this name.
-    Named(String),
+    /// The names of collections, as those of a batch with this name: all, or one alone, if it is there.
+    Named(String, Option<String>),
+    /// How many documents the collection of this name behind its database had, which is removed.
+    Dropped(String),
+    /// The indexes of the collection of this name behind its database, if it has documents.
+    Indexed(String),
+    /// That indexes are dropped, if the collection has documents: all but that of the `_id`, or else one, which isn't
+    /// there.
+    Unindexed(bool),
     /// That a collection is made, if it has no documents, and else that it is there.
     Made,
 }
@@ -47,6 +45,11 @@ pub enum Plan {
     Closes(String, Vec<i64>),
     /// To find a document and change it; if there is none, to put one in; and then to find that, if there is a third.
     Upserts(Vec<Statement>),
+    /// To give the documents of a collection to another one.
+    Renames(String, String),
+    /// To put what is found into a collection that has no documents, whose name is first; the batch is one of a
+    /// collection behind its database. The first statement counts, and the second finds.
+    Outs(String, String, Vec<Statement>),
     /// To put documents into a collection; if they are ordered, none behind the first that is refused.
     Inserts(String, Vec<Vec<u8>>, bool),
     /// Changes, one after the other; if they are ordered, none behind the first that is refused. It is told, if so, how

@@ -6,11 +6,10 @@ ghost use Rattle.bson_base.specs.Value.{look_up};
 ghost use Rattle.bson_model.specs.View.{content, view};
 ghost use Rattle.bson_model.specs.declared.bson.Bson.{Bson as AnyValue};
 ghost use Rattle.fallowtime_plans.specs.Batches.{AreNumbers, IsFurther, IsSize, IsSizeIn};
-ghost use Rattle.fallowtime_plans.specs.Lines.{IsWhole};
+ghost use Rattle.fallowtime_statements.specs.Lines.{IsWhole};
 
-use crate::fault::{Code, Fault, refuse};
-use crate::lines::{most_of, value_in, whole_in};
 use bson_model::{Bson, Document};
+use fallowtime_statements::{Code, Fault, most_of, refuse, value_in, whole_in};
 use std::alloc::Global;
 
 /// The whole number that a value is. `BadValue` if it is none.

@@ -6,11 +6,8 @@ ghost use Rattle.bson_base.specs.Value.{look_up};
 ghost use Rattle.bson_model.specs.View.{content, view};
 ghost use Rattle.fallowtime_plans.specs.Indexing.{ArePlainIndexes, IsOrder, IsPlainIndex, are_numbers, is_number};
 
-use crate::fault::{Code, Fault, refuse};
-use crate::fields::allowed;
-use crate::lines::value_in;
-use crate::name::Name;
 use bson_model::{Bson, Document};
+use fallowtime_statements::{Code, Fault, Name, allowed, refuse, value_in};
 use std::alloc::Global;
 
 /// Whether a value is a number, as of an order.

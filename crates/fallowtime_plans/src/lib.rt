@@ -3,22 +3,15 @@
 
 mod asked;
 mod batches;
-mod changes;
-mod counting;
-mod fault;
-mod fields;
-mod finding;
+mod collections;
+mod filling;
 mod indexing;
-mod lines;
 mod lists;
-mod modifying;
-mod name;
 mod plans;
+mod spaces;
 mod told;
 
-pub use asked::{Plan, Statement, Way};
-pub use fault::{Code, Fault, code_of, update_code};
+pub use asked::{Plan, Way};
 pub use lists::copy_of;
-pub use name::{Name, first_key, name_of};
 pub use plans::plan;
-pub use told::{done, hello, put};
+pub use told::{done, hello};

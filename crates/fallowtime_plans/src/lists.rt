@@ -10,13 +10,12 @@ ghost use Rattle.bson_raw.specs.View.{bytes_of};
 ghost use Rattle.bson_store.specs.Export.{bytes_of_each};
 ghost use Rattle.fallowtime_plans.specs.Plans.{AreGiven, IsWritten};
 
-use crate::fault::{Code, Fault, refuse};
-use crate::lines::value_in;
 use bson_bytes::encode_document;
 use bson_frame::ErrorKind;
 use bson_message::{Sequence, documents_of};
 use bson_model::{Bson, Document};
 use bson_raw::RawDocument;
+use fallowtime_statements::{Code, Fault, refuse, value_in};
 use std::alloc::{AllocError, Global};
 
 /// The bytes of a document. `BadValue` if it has none.

@@ -1,59 +1,30 @@
 //! What a command asks of the store.
 
-ghost use Rattle.std.specs.Prelude.{◌≡◌, [], IfOk, MatchResult, Some, codes, false, string_bytes, true};
-ghost use Rattle.bson_base.specs.Value.{look_up, scalar, string};
+ghost use Rattle.std.specs.Prelude.{[], IfOk, MatchResult, codes, false, true};
+ghost use Rattle.bson_base.specs.Value.{look_up};
 ghost use Rattle.bson_model.specs.View.{content};
-ghost use Rattle.fallowtime_plans.specs.Lines.{IsTruth};
-ghost use Rattle.fallowtime_plans.specs.Plans.{Asks, AsksBy, IsOf, IsRefused, namespace};
-ghost use Rattle.fallowtime_plans.specs.declared.name.Name.TheVariants as names;
+ghost use Rattle.fallowtime_statements.specs.Lines.{IsTruth};
+ghost use Rattle.fallowtime_plans.specs.Plans.{Asks, AsksBy, IsOf, IsRefused};
+ghost use Rattle.fallowtime_statements.specs.declared.name.Name.TheVariants as names;
 
 use crate::asked::{Plan, Way};
 use crate::batches::{further_in, numbers_in, size_in, size_of_cursor};
-use crate::changes::{changes_of, removals_of};
-use crate::counting::counting_in;
-use crate::fault::{Code, Fault, refuse};
-use crate::fields::allowed;
-use crate::finding::{finding_in, is_grouped};
-use crate::indexing::plain_indexes_in;
-use crate::lines::{
-    count_by, count_statement, find_statement, part_in, text_in, truth_in, whole_in,
+use crate::collections::{
+    create, create_indexes, drop_collection, drop_indexes, list_collections, list_indexes, rename,
 };
+use crate::filling::{out_statements, target_of};
 use crate::lists::listed;
-use crate::modifying::{
-    collections_statement, distinct_statement, modify_statement, upsert_statements,
-};
-use crate::name::{Name, first_key, name_of};
-use crate::told::{build_info, databases, hello, indexed, ping};
+use crate::spaces::{collection_of, namespace};
+use crate::told::{build_info, databases, hello, ping};
 use bson_message::Sequence;
-use bson_model::Document;
+use bson_model::{Bson, Document};
+use fallowtime_statements::{
+    Code, Fault, Name, allowed, changes_of, count_by, count_statement, counting_in,
+    distinct_statement, find_statement, finding_in, first_key, modify_statement, name_of,
+    operand_of, part_in, refuse, removals_of, truth_in, upsert_statements, value_in, whole_in,
+};
 use fallowtime_texts::IdMaker;
-use std::alloc::{AllocError, Global};
-
-/// The collection that a command is of. `InvalidNamespace` if it is one of another database or of none, `BadValue` if
-/// its name is no text.
-fn collection_of<'d>(
-    alloc: Global,
-    database: &str,
-    command: &'d Document,
-    key: &str,
-) -> Result<&'d str, Fault>
-    ensures { IfOk result (λ n. IsOf database.now key.now (content command.now) n.now) }
-{
-    if text_in(alloc, command, "$db")? != database {
-        return Err(refuse(alloc, Code::InvalidNamespace, database));
-    }
-    text_in(alloc, command, key)
-}
-
-/// The name of a collection behind that of its database.
-fn namespace(alloc: Global, database: &str, name: &str) -> Result<String, AllocError>
-    ensures { IfOk result (λ t. string_bytes t ≡ namespace database.now name.now) }
-{
-    let mut text = String::from_str(alloc, database)?;
-    text.push_str(".")?;
-    text.push_str(name)?;
-    Ok(text)
-}
+use std::alloc::Global;
 
 /// What `count` asks, and of it `skip` and `limit`.
 fn count(
@@ -155,7 +126,7 @@ fn count_by_pipeline(
     ))
 }
 
-/// What `aggregate` asks, if its pipeline finds.
+/// What `aggregate` asks, if its pipeline finds: what is found is told, or put into a collection.
 fn find_by_pipeline(
     alloc: Global,
     maker: &mut IdMaker,
@@ -168,8 +139,28 @@ fn find_by_pipeline(
     let parts = finding_in(alloc, command)?;
     let space = namespace(alloc, database, name)?;
     let size = size_of_cursor(alloc, command)?;
-    let statement = find_statement(alloc, maker, &parts, name)?;
-    Ok(Plan::One(statement, Way::Found(space, size, false)))
+    match value_in(&parts, "out") {
+        Some(value) => {
+            let target = target_of(alloc, command, value)?;
+            let list = out_statements(alloc, maker, &parts, name, target.as_str())?;
+            Ok(Plan::Outs(target, space, list))
+        }
+        None => {
+            let statement = find_statement(alloc, maker, &parts, name)?;
+            Ok(Plan::One(statement, Way::Found(space, size, false)))
+        }
+    }
+}
+
+/// Whether the last stage of a pipeline is a group.
+fn is_grouped(command: &Document) -> bool {
+    match value_in(command, "pipeline") {
+        Some(Bson::Array(stages)) => match stages.as_slice().last() {
+            Some(stage) => operand_of(stage, "$group").is_some(),
+            None => false,
+        },
+        _ => false,
+    }
 }
 
 /// What `aggregate` asks: a pipeline that ends with a group counts, and any other finds.
@@ -242,57 +233,6 @@ fn distinct(
     Ok(Plan::One(statement, Way::Different))
 }
 
-/// Refuses a command over another database. `InvalidNamespace` if it is one, `BadValue` if its name is no text.
-fn of_database(alloc: Global, database: &str, command: &Document) -> Result<(), Fault>
-    ensures { IfOk result (λ _. look_up (codes "$db") (content command.now) ≡ Some (scalar (string database.now))) }
-{
-    if text_in(alloc, command, "$db")? != database {
-        return Err(refuse(alloc, Code::InvalidNamespace, database));
-    }
-    Ok(())
-}
-
-/// What `listCollections` asks.
-fn list_collections(
-    alloc: Global,
-    maker: &mut IdMaker,
-    database: &str,
-    command: &Document,
-) -> Result<Plan, Fault>
-    ensures { IfOk result (AsksBy names.ListCollections database.now (content command.now) []) }
-{
-    of_database(alloc, database, command)?;
-    let space = namespace(alloc, database, "$cmd.listCollections")?;
-    let statement = collections_statement(alloc, maker)?;
-    Ok(Plan::One(statement, Way::Named(space)))
-}
-
-/// What `create` asks: how many documents the collection has. `InvalidNamespace` if its name is empty.
-fn create(
-    alloc: Global,
-    maker: &mut IdMaker,
-    database: &str,
-    command: &Document,
-) -> Result<Plan, Fault>
-    ensures { IfOk result (AsksBy names.Create database.now (content command.now) []) }
-{
-    let name = collection_of(alloc, database, command, "create")?;
-    if name.is_empty() {
-        return Err(refuse(alloc, Code::InvalidNamespace, name));
-    }
-    let statement = count_by(alloc, maker, name, Document::new(alloc))?;
-    Ok(Plan::One(statement, Way::Made))
-}
-
-/// What `createIndexes` asks: nothing, if all of the indexes are plain.
-fn create_indexes(alloc: Global, database: &str, command: &Document) -> Result<Plan, Fault>
-    ensures { IfOk result (AsksBy names.CreateIndexes database.now (content command.now) []) }
-{
-    collection_of(alloc, database, command, "createIndexes")?;
-    plain_indexes_in(alloc, command)?;
-    Ok(Plan::Told(indexed(alloc)?))
-}
-
 /// What `getMore` asks.
 fn get_more(alloc: Global, database: &str, command: &Document) -> Result<Plan, Fault>
     ensures { IfOk result (AsksBy names.GetMore database.now (content command.now) []) }
@@ -333,7 +273,11 @@ fn alone(
         Name::Distinct => distinct(alloc, maker, database, command),
         Name::ListCollections => list_collections(alloc, maker, database, command),
         Name::Create => create(alloc, maker, database, command),
+        Name::Drop => drop_collection(alloc, maker, database, command),
+        Name::RenameCollection => rename(alloc, database, command),
         Name::CreateIndexes => create_indexes(alloc, database, command),
+        Name::ListIndexes => list_indexes(alloc, maker, database, command),
+        Name::DropIndexes => drop_indexes(alloc, maker, database, command),
         Name::ListDatabases => Ok(Plan::Told(databases(alloc, database)?)),
         Name::KillCursors => kill_cursors(alloc, database, command),
         Name::GetMore => get_more(alloc, database, command),

@@ -14,7 +14,7 @@ use Rattle.store_model.specs.declared.error.ErrorKind.TheVariants.{Reader}
 use Rattle.store_table.proofs.OthersLemmas.{others_then, shows_then}
 use Rattle.store_table.specs.Rows.{TableRow}
 use Rattle.fallowtime_session.specs.Deeds.{Deed, LeftByDeed}
-use Rattle.fallowtime_cursors.specs.Waiting.{Wait}
+use Rattle.fallowtime_messages.specs.Waiting.{Wait}
 use Rattle.fallowtime_messages.proofs.DoneLemmas.{along_more, none_done}
 use Rattle.fallowtime_messages.specs.Done.{AreDone, DidAll, DoesAll, IsOpenAlong, LeftAlong}
 use Rattle.fallowtime_messages.specs.Serving.{Serves}

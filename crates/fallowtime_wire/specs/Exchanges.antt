@@ -10,7 +10,7 @@ use Rattle.store_model.specs.declared.error.ErrorKind.{ErrorKind}
 use Rattle.store_model.specs.declared.error.ErrorKind.TheVariants.{BadLength, EndInside, Memory, Reader}
 use Rattle.fallowtime_session.specs.Deeds.{Deed}
 use Rattle.fallowtime_session.specs.Sessions.{Sends}
-use Rattle.fallowtime_cursors.specs.Waiting.{Wait}
+use Rattle.fallowtime_messages.specs.Waiting.{Wait}
 use Rattle.fallowtime_messages.specs.Serving.{Serves}
 
 -- a message, the number of its answer, what waits of finds before and behind it, what is sent for it, and what was done

@@ -3,16 +3,16 @@
 ghost use Rattle.std.specs.Prelude.{◌≡◌, ◌%◌, ◌^◌};
 ghost use Rattle.bson_base.specs.Device.{CanFail, CanRefuse};
 ghost use Rattle.bson_store.specs.Calls.{store_state};
-ghost use Rattle.fallowtime_cursors.specs.Waiting.{waiting};
+ghost use Rattle.fallowtime_messages.specs.Waiting.{waiting};
 ghost use Rattle.fallowtime_messages.specs.Done.{DoesAll};
 ghost use Rattle.fallowtime_wire.specs.Exchanges.{Ends, Exchanges, kind_of};
 
 use bson_base::{Sink, Source};
 use bson_message::{ReadFault, next_message};
 use bson_store::{ErrorKind, Store};
-use fallowtime_cursors::Cursors;
+use fallowtime_messages::Cursors;
 use fallowtime_session::send;
-use fallowtime_texts::IdMaker;
+use fallowtime_texts::{Clock, IdMaker};
 use sqlite::Alter;
 use std::alloc::Global;
 
@@ -36,19 +36,20 @@ fn number_behind(turns: u64) -> u32
 }
 
 /// The number of the first find that waits: that of an id, so that it is another one than those of other runs, except by
-/// chance.
+/// chance. It is under 2⁶², so that as many are left behind it.
 fn first_number(maker: &mut IdMaker) -> u64 {
     let [_, _, _, _, a, b, c, d, e, f, g, h] = maker.make().bytes();
-    u64::from_be_bytes([a, b, c, d, e, f, g, h]) / 2
+    u64::from_be_bytes([a, b, c, d, e, f, g, h]) / 4
 }
 
-/// Does what a message asks, and writes its answer, which has this number.
+/// Does what a message asks at the time of the clock, and writes its answer, which has this number.
 ///
 /// `Memory` if there is none for any answer, and then it wasn't done; `Writer` if the write failed.
-fn exchange<S: Alter + Drop, O: Sink>(
+fn exchange<S: Alter + Drop, C: Clock, O: Sink>(
     alloc: Global,
     store: &mut Store<S>,
     cursors: &mut Cursors,
+    clock: &mut C,
     maker: &mut IdMaker,
     database: &str,
     number: u32,
@@ -59,6 +60,7 @@ fn exchange<S: Alter + Drop, O: Sink>(
     ensures { DoesAll (Exchanges database.now number message.now (waiting cursors.old) (waiting cursors.new) result (O.tally output.old)
         (O.tally output.new)) (store_state S.Store store.old) (store_state S.Store store.new) }
 {
+    maker.set_time(clock.millis());
     match fallowtime_messages::serve(alloc, store, cursors, maker, database, number, message) {
         Ok(Some(answer)) => send(output, answer.as_slice()),
         Ok(None) => Ok(()),
@@ -68,14 +70,16 @@ fn exchange<S: Alter + Drop, O: Sink>(
 
 /// Does what the messages of `input` ask of `store`, which is the database of this name, one after the other, and writes
 /// the answer to each on `output` before it reads the next, until the input ends. `maker` makes the `_id`s of documents
-/// that are put in without one. What was found and not told yet waits from one message to the next.
+/// that are put in without one, and the dates that updates ask for, at the time that `clock` tells before each message is
+/// answered. What was found and not told yet waits from one message to the next.
 ///
 /// `Reader` if a read failed; `EndInside` if the input ends inside a message; `BadLength` if a message declares a length
 /// under 16 or over 48000000 bytes; `Writer` if a write failed; `Memory` if there is none for the bytes of a message, or
 /// for any answer to it, and then it wasn't done. After an error nothing more is read.
-pub fn serve<S: Alter + Drop, I: Source, O: Sink>(
+pub fn serve<S: Alter + Drop, C: Clock, I: Source, O: Sink>(
     alloc: Global,
     store: &mut Store<S>,
+    clock: &mut C,
     maker: &mut IdMaker,
     database: &str,
     input: &mut I,
@@ -94,6 +98,7 @@ pub fn serve<S: Alter + Drop, I: Source, O: Sink>(
                 alloc,
                 store,
                 &mut cursors,
+                clock,
                 maker,
                 database,
                 number_behind(turn),

@@ -1,4 +1,4 @@
-use Rattle.fallowtime_cursors.specs.Waiting.{waiting}
+use Rattle.fallowtime_messages.specs.Waiting.{waiting}
 use Rattle.fallowtime_messages.proofs.BatchLemmas.{told_by_way}
 use Rattle.fallowtime_messages.proofs.batches.tell_by.Goals as goal
 

@@ -2,7 +2,7 @@ use Rattle.std.proofs.Common.{rules, get_or, map, pos, subst, w64}
 use Rattle.std.proofs.lemmas.Int.{to_z-of_z}
 use Rattle.std.proofs.lemmas.List.{drop_all}
 use Rattle.bson_model.specs.View.{view}
-use Rattle.fallowtime_cursors.specs.Waiting.{waiting}
+use Rattle.fallowtime_messages.specs.Waiting.{waiting}
 use Rattle.fallowtime_messages.proofs.BatchLemmas.{GoesOn, all_closed, one_closed}
 use Rattle.fallowtime_messages.proofs.batches.tell_closed.Goals as goal
 

@@ -1,6 +1,6 @@
 use Rattle.std.proofs.Common.{drop, map}
 use Rattle.bson_model.specs.View.{view}
-use Rattle.fallowtime_cursors.specs.Waiting.{waiting}
+use Rattle.fallowtime_messages.specs.Waiting.{waiting}
 use Rattle.fallowtime_messages.proofs.BatchLemmas.{GoesOn}
 use Rattle.fallowtime_messages.proofs.batches.tell_closed.Given as goal
 

@@ -1,5 +1,5 @@
 use Rattle.bson_store.specs.Export.{bytes_of_each}
-use Rattle.fallowtime_cursors.specs.Waiting.{waiting}
+use Rattle.fallowtime_messages.specs.Waiting.{waiting}
 use Rattle.fallowtime_messages.proofs.BatchLemmas.{documents_told}
 use Rattle.fallowtime_messages.proofs.batches.tell_documents.Goals as goal
 

@@ -1,5 +1,5 @@
 use Rattle.std.proofs.Common.{rules}
-use Rattle.fallowtime_cursors.specs.Waiting.{waiting}
+use Rattle.fallowtime_messages.specs.Waiting.{waiting}
 use Rattle.fallowtime_messages.proofs.BatchLemmas.{found_told}
 use Rattle.fallowtime_messages.proofs.batches.tell_found.Goals as goal
 

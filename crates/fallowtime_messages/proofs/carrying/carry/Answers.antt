@@ -1,8 +1,9 @@
 use Rattle.std.proofs.Common.{rules, w64}
 use Rattle.std.proofs.lemmas.Int.{to_z-of_z}
 use Rattle.bson_store.specs.Calls.{store_state}
-use Rattle.fallowtime_cursors.specs.Waiting.{waiting}
+use Rattle.fallowtime_messages.specs.Waiting.{waiting}
 use Rattle.fallowtime_messages.proofs.OutcomeLemmas.{carried_closed, carried_inserts, carried_more, carried_told}
+use Rattle.fallowtime_messages.proofs.MovingLemmas.{carried_rename}
 use Rattle.fallowtime_messages.proofs.carrying.carry.Goals as goal
 
 pub returns-in-Told : goal.returns-in-Told
@@ -31,3 +32,12 @@ pub returns-in-Inserts : goal.returns-in-Inserts
 returns-in-Inserts g c =
     let i = c.in-Inserts in
     rw i.is (carried_inserts i.name i.documents i.stops (waiting c.args.cursors.now) c.carry_inserts.result (store_state g.S.Store c.args.store.now) (store_state g.S.Store c.carry_inserts.new.store) (rw c.as_slice-in-Inserts.ensures.value at c.carry_inserts.ensures))
+
+pub returns-in-Renames : goal.returns-in-Renames
+returns-in-Renames g c =
+    let r = c.in-Renames in
+    rw r.is (carried_rename r.name r.new (waiting c.args.cursors.now) c.carry_rename.result (store_state g.S.Store c.args.store.now) (store_state g.S.Store c.carry_rename.new.store)
+    (rw c.as_str-in-Renames.ensures.value at (rw c.as_str-in-Renames-2.ensures.value at c.carry_rename.ensures)))
+
+pub returns-in-Outs : goal.returns-in-Outs
+returns-in-Outs g c = rw c.in-Outs.is (c.carry_out.ensures (waiting c.args.cursors.now))

@@ -5,7 +5,7 @@ use Rattle.bson_store.specs.Export.{bytes_of_each}
 use Rattle.std.specs.declared.alloc.Global.{Global}
 use Rattle.fallowtime_messages.specs.Done.{DoesAll}
 use Rattle.fallowtime_messages.specs.Outcomes.{IsImport, InsertsOrStarts}
-use Rattle.fallowtime_plans.proofs.ListLemmas.{zip_seen_left}
+use Rattle.fallowtime_statements.proofs.ListLemmas.{zip_seen_left}
 use Rattle.fallowtime_messages.proofs.OutcomeLemmas.{all_put, each_put, none_left, none_put, some_put}
 use Rattle.fallowtime_messages.proofs.carrying.carry_inserts.Goals as goal
 

@@ -1,5 +1,5 @@
 use Rattle.bson_store.specs.Calls.{store_state}
-use Rattle.fallowtime_cursors.specs.Waiting.{waiting}
+use Rattle.fallowtime_messages.specs.Waiting.{waiting}
 use Rattle.fallowtime_messages.proofs.OutcomeLemmas.{carried_one}
 use Rattle.fallowtime_messages.proofs.carrying.carry_one.Goals as goal
 

@@ -1,7 +1,7 @@
 use Rattle.std.proofs.Common.{refl}
 use Rattle.bson_model.specs.View.{content}
 use Rattle.bson_store.specs.Calls.{store_state}
-use Rattle.fallowtime_cursors.specs.Waiting.{waiting}
+use Rattle.fallowtime_messages.specs.Waiting.{waiting}
 use Rattle.fallowtime_messages.proofs.OutcomeLemmas.{carried, refused}
 use Rattle.fallowtime_messages.proofs.serving.answer_command.Goals as goal
 

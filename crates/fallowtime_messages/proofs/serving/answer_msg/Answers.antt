@@ -4,7 +4,7 @@ use Rattle.bson_raw.specs.View.{bytes_of}
 use Rattle.std.proofs.lemmas.Result.{err_from_is_err_and}
 use Rattle.bson_model.specs.View.{content}
 use Rattle.bson_store.specs.Calls.{store_state}
-use Rattle.fallowtime_cursors.specs.Waiting.{waiting}
+use Rattle.fallowtime_messages.specs.Waiting.{waiting}
 use Rattle.fallowtime_messages.specs.Done.{DoesAll}
 use Rattle.fallowtime_messages.specs.Outcomes.{told_by}
 use Rattle.fallowtime_messages.specs.Serving.{ComesOfMsg}

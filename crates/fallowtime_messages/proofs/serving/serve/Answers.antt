@@ -2,7 +2,7 @@ use Rattle.std.proofs.Common.{rules, ◌≡◌, refl, sym, subst, Ok}
 use Rattle.std.proofs.lemmas.Result.{err_from_is_err_and}
 use Rattle.bson_message.specs.declared.message.Body.TheVariants.{Msg, Query}
 use Rattle.bson_store.specs.Calls.{store_state}
-use Rattle.fallowtime_cursors.specs.Waiting.{waiting}
+use Rattle.fallowtime_messages.specs.Waiting.{waiting}
 use Rattle.fallowtime_messages.specs.Done.{DoesAll}
 use Rattle.fallowtime_messages.specs.Serving.{Serves}
 use Rattle.fallowtime_messages.proofs.ServeLemmas.{fault_served, msg_served, no_message, nothing_served, query_served}

@@ -1,7 +1,7 @@
 use Rattle.std.proofs.Common.{refl, sym, subst}
 use Rattle.std.proofs.lemmas.Result.{err_from_is_err_and}
 use Rattle.bson_store.specs.Calls.{store_state}
-use Rattle.fallowtime_cursors.specs.Waiting.{waiting}
+use Rattle.fallowtime_messages.specs.Waiting.{waiting}
 use Rattle.fallowtime_messages.specs.Done.{DoesAll}
 use Rattle.fallowtime_messages.specs.Serving.{ServesMsg}
 use Rattle.fallowtime_messages.proofs.ServeLemmas.{no_memory, sent}

@@ -3,7 +3,7 @@ use Rattle.std.specs.declared.alloc.Global.{Global}
 use Rattle.bson_model.specs.View.{view}
 use Rattle.bson_model.specs.declared.bson.Bson.{Bson}
 use Rattle.fallowtime_messages.specs.Outcomes.{IsMeant}
-use Rattle.fallowtime_plans.proofs.ListLemmas.{zip_more, zip_whole}
+use Rattle.fallowtime_statements.proofs.ListLemmas.{zip_more, zip_whole}
 use Rattle.fallowtime_messages.proofs.telling.items_of_each.Goals as goal
 
 pub loop-body-preserved : goal.loop-body-preserved

@@ -3,8 +3,8 @@ use Rattle.std.proofs.Common.{ℤ, Some, ◌∙◌, ◌++◌, ◌∷◌, [], ap,
 use Rattle.std.proofs.lemmas.Int.{to_z-of_z}
 use Rattle.bson_model.specs.View.{view}
 use Rattle.bson_model.specs.declared.bson.Bson.{Bson}
-use Rattle.fallowtime_plans.specs.Lines.{IsWhole}
-use Rattle.fallowtime_plans.proofs.ListLemmas.{zip_more, zip_whole}
+use Rattle.fallowtime_statements.specs.Lines.{IsWhole}
+use Rattle.fallowtime_statements.proofs.ListLemmas.{zip_more, zip_whole}
 use Rattle.fallowtime_plans.proofs.batches.numbers_of.Goals as goal
 
 pub loop-item-preserved : goal.loop-item-preserved

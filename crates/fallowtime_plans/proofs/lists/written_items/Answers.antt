@@ -3,7 +3,7 @@ use Rattle.std.specs.declared.alloc.Global.{Global}
 use Rattle.bson_model.specs.View.{view}
 use Rattle.bson_model.specs.declared.bson.Bson.{Bson}
 use Rattle.fallowtime_plans.specs.Plans.{IsWritten}
-use Rattle.fallowtime_plans.proofs.ListLemmas.{zip_more, zip_whole}
+use Rattle.fallowtime_statements.proofs.ListLemmas.{zip_more, zip_whole}
 use Rattle.fallowtime_plans.proofs.lists.written_items.Goals as goal
 
 pub loop-item-preserved : goal.loop-item-preserved

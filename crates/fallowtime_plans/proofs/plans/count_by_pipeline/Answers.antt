@@ -1,6 +1,6 @@
 use Rattle.std.proofs.Common.{refl, string_bytes}
 use Rattle.bson_model.specs.View.{content, view}
-use Rattle.fallowtime_plans.specs.Lines.{line_of_two}
+use Rattle.fallowtime_statements.specs.Lines.{line_of_two}
 use Rattle.fallowtime_plans.proofs.WriteLemmas.{asks_group}
 use Rattle.fallowtime_plans.proofs.plans.count_by_pipeline.Goals as goal
 

@@ -1,6 +1,6 @@
 use Rattle.std.proofs.Common.{codes, refl}
 use Rattle.bson_model.specs.View.{content}
-use Rattle.fallowtime_plans.specs.Changes.{IsRemovalOf}
+use Rattle.fallowtime_statements.specs.Changes.{IsRemovalOf}
 use Rattle.fallowtime_plans.proofs.WriteLemmas.{asks_writes}
 use Rattle.fallowtime_plans.proofs.plans.delete.Goals as goal
 

@@ -1,7 +1,7 @@
 use Rattle.std.proofs.Common.{codes, false, subst}
 use Rattle.bson_base.specs.Value.{look_up}
 use Rattle.bson_model.specs.View.{content}
-use Rattle.fallowtime_plans.specs.Lines.{IsTruth}
+use Rattle.fallowtime_statements.specs.Lines.{IsTruth}
 use Rattle.fallowtime_plans.proofs.plans.find_and_modify.Goals as goal
 
 pub returns : goal.returns

@@ -1,6 +1,6 @@
 use Rattle.std.proofs.lemmas.Result.{err_from_is_err_and}
 use Rattle.bson_store.specs.Calls.{store_state}
-use Rattle.fallowtime_cursors.specs.Waiting.{waiting}
+use Rattle.fallowtime_messages.specs.Waiting.{waiting}
 use Rattle.fallowtime_wire.proofs.ExchangeLemmas.{at_end, begin, endless, not_answered, not_taken, went_on}
 use Rattle.fallowtime_wire.proofs.serving.serve.Goals as goal
 

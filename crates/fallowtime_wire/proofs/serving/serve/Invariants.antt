@@ -1,5 +1,5 @@
 use Rattle.bson_store.specs.Calls.{store_state}
-use Rattle.fallowtime_cursors.specs.Waiting.{waiting}
+use Rattle.fallowtime_messages.specs.Waiting.{waiting}
 use Rattle.fallowtime_wire.proofs.ExchangeLemmas.{SoFar}
 use Rattle.fallowtime_wire.proofs.serving.serve.Given as goal
 

@@ -1,6 +1,0 @@
-use Rattle.bson_model.specs.View.{view}
-use Rattle.fallowtime_plans.proofs.CountLemmas.{skips}
-use Rattle.fallowtime_plans.proofs.counting.skip_in.Goals as goal
-
-pub returns-in-Some : goal.returns-in-Some
-returns-in-Some c = skips (view c.args.stage.now) (view c.in-Some.value.now) c.number_of.result (rw c.in-Some.is at c.operand_of.ensures) c.number_of.ensures

@@ -1,0 +1,7 @@
+pub mod ValueLemmas
+pub mod ListLemmas
+pub mod LineLemmas
+pub mod ChangeLemmas
+pub mod CountLemmas
+pub mod FindLemmas
+pub mod ModifyLemmas
