@@ -133,6 +133,51 @@ static double find(long long finds, int is_json) {
     return spent;
 }
 
+/* Finds of some ten documents, whose numbers lie between two: their bytes alone, or a query of JSON in and documents of
+   JSON out, in the order of their places. */
+static double find_ten(long long finds, int is_json) {
+    sqlite3_stmt *some = prepare("SELECT body FROM documents WHERE number >= ? AND number < ? ORDER BY place");
+    const int64_t numbers = 1000003, width = 10 * numbers / count;
+    unsigned seed = 2;
+    size_t written = 0;
+    double began = now();
+    for (long long i = 0; i < finds; i++) {
+        int64_t low = (int64_t)rand_r(&seed) % (numbers - width), high = low + width;
+        if (is_json) {
+            char text[96];
+            bson_error_t error;
+            bson_iter_t at, found;
+            int length = snprintf(text, sizeof text, "{\"number\":{\"$gte\":%lld,\"$lt\":%lld}}", (long long)low, (long long)high);
+            bson_t *query = bson_new_from_json((uint8_t *)text, length, &error);
+            if (!bson_iter_init(&at, query) || !bson_iter_find_descendant(&at, "number.$gte", &found)) fail("query");
+            low = bson_iter_as_int64(&found);
+            if (!bson_iter_init(&at, query) || !bson_iter_find_descendant(&at, "number.$lt", &found)) fail("query");
+            high = bson_iter_as_int64(&found);
+            bson_destroy(query);
+        }
+        sqlite3_bind_int64(some, 1, low);
+        sqlite3_bind_int64(some, 2, high);
+        while (sqlite3_step(some) == SQLITE_ROW) {
+            const uint8_t *body = sqlite3_column_blob(some, 0);
+            if (is_json) {
+                bson_t document;
+                size_t length;
+                bson_init_static(&document, body, sqlite3_column_bytes(some, 0));
+                char *line = bson_as_canonical_extended_json(&document, &length);
+                written += length;
+                bson_free(line);
+            } else {
+                written += body[4];
+            }
+        }
+        sqlite3_reset(some);
+    }
+    double spent = now() - began;
+    sqlite3_finalize(some);
+    if (!written) fail("written");
+    return spent;
+}
+
 /* Inserts behind the others, each in its own transaction. They are taken back by their place. */
 static double insert(long long inserts, const uint8_t *body) {
     sqlite3_stmt *insert = prepare(INSERT);
@@ -162,7 +207,7 @@ int main(int words, char **word) {
     run("CREATE TABLE documents (place INTEGER PRIMARY KEY, coll TEXT NOT NULL, idkey BLOB NOT NULL, body BLOB NOT NULL,"
         " number INTEGER, name TEXT, UNIQUE (coll, idkey))");
     const uint8_t *body = fill(stream, size);
-    double scanned = 0, made = 0, bytes = 0, json = 0, plain = 0, indexed = 0;
+    double scanned = 0, made = 0, bytes = 0, json = 0, ten_bytes = 0, ten_json = 0, plain = 0, indexed = 0;
     for (int i = 0; i < ROUNDS; i++) {
         scanned = least_of(scan(), scanned);
         plain = least_of(insert(inserts, body), plain);
@@ -172,12 +217,16 @@ int main(int words, char **word) {
     for (int i = 0; i < ROUNDS; i++) {
         bytes = least_of(find(finds, 0), bytes);
         json = least_of(find(finds, 1), json);
+        ten_bytes = least_of(find_ten(finds / 10, 0), ten_bytes);
+        ten_json = least_of(find_ten(finds / 10, 1), ten_json);
         indexed = least_of(insert(inserts, body), indexed);
     }
     say("a scan", scanned, 1);
     say("making an index of numbers", made, 1);
     say("a find by the index, its bytes", bytes, finds);
     say("a find by the index, JSON in and out", json, finds);
+    say("a find of ten by a range and the index, their bytes", ten_bytes, finds / 10);
+    say("a find of ten by a range and the index, JSON in and out", ten_json, finds / 10);
     say("an insert", plain, inserts);
     say("an insert with two indexes", indexed, inserts);
     printf("that is %.2f of one without\n", indexed / plain);

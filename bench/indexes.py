@@ -5,7 +5,8 @@ bench/indexes.py PROGRAM BASELINE [NUMBER ..]
 
 PROGRAM is the program under the name fallowtime, BASELINE what bench/indexes.c was built as, and NUMBER how many orders
 there are: 20000 and 100000, if it isn't given. Prints, as microseconds of the processor for each, the least of three
-rounds: a find of one order by an indexed field, a get by its `_id` and a find without an index in the same session,
+rounds: a find of one order by an indexed field, of ten by a range of it, a get by its `_id` and both finds without an
+index in the same session,
 inserts with two indexes and without, making an index beside a count that reads all orders; and the bytes of memory that
 an index takes for each order. Behind it the same of BASELINE. Files lie in memory, so a sync costs nothing.
 """
@@ -21,13 +22,15 @@ import tempfile
 import bson
 
 FINDS, INSERTS, ROUNDS = 10000, 5000, 3
+# The numbers of the orders lie below this one, as far from each other as they can.
+NUMBERS = 1000003
 
 
 def document(number, among):
     """An order. Its number is its own, and 20 orders have its customer."""
     customer = {"name": f"Customer {number * 7919 % (among // 20)}", "city": "Ulm"}
     lines = [{"article": f"article {number * 7 % 100}", "count": count, "price": number % 1000 / 8} for count in (1, 2)]
-    return {"_id": number, "number": number * 7919 % 1000003, "customer": customer, "paid": number % 3 == 0, "lines": lines}
+    return {"_id": number, "number": number * 7919 % NUMBERS, "customer": customer, "paid": number % 3 == 0, "lines": lines}
 
 
 class Session:
@@ -73,8 +76,11 @@ def say(what, microseconds):
 def finds(session, number):
     """Finds of one order each, and gets of the same orders."""
     chosen = random.Random(1).choices(range(number), k=FINDS)
-    asked = [["find", "c", {"number": one * 7919 % 1000003}] for one in chosen]
+    asked = [["find", "c", {"number": one * 7919 % NUMBERS}] for one in chosen]
     say("a find without an index", least(session, asked[:20]))
+    width = 10 * NUMBERS // number
+    ranges = [["find", "c", {"number": {"$gte": low, "$lt": low + width}}] for low in random.Random(2).choices(range(NUMBERS - width), k=FINDS // 10)]
+    say("a find of ten by a range without an index", least(session, ranges[:20]))
     counting = [["count", "c", {"number": -1}]]
     scan = least(session, counting)
     made = []
@@ -88,6 +94,8 @@ def finds(session, number):
     say("a count by the index", least(session, [["count", *rest] for _, *rest in asked]))
     say("a get by the _id", least(session, [["get", "c", one] for one in chosen]))
     print(f"which finds {len(session.ask(asked[:1])[0]['documents'])}")
+    say("a find of ten by a range and the index", least(session, ranges))
+    print(f"the first of which finds {len(session.ask(ranges[:1])[0]['documents'])}")
     session.ask([["index", "c", "customer.name"]])
     say("a find of 20 by another index", least(session, [["find", "c", {"customer.name": f"Customer {one % (number // 20)}"}] for one in chosen[:1000]]))
 

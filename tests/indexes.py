@@ -8,7 +8,8 @@ PROGRAM is the program under the name fallowtime. LISTS is how many lists there 
 number of the first one. A list mixes changes of two collections with questions about paths that have an index or have
 none, and with indexes that are made and dropped between them. Of a list whose answers differ, the shortest one that is
 found is printed. Behind the lists questions are asked after each sort of change, and it is measured that those which an
-index serves read few documents. Ends with status 1 if something isn't as it should be.
+index serves read few documents. At last random ranges are held against an evaluation by tests/questions.py. Ends with
+status 1 if something isn't as it should be.
 """
 import atexit
 import base64
@@ -24,6 +25,8 @@ import sys
 import tempfile
 
 import bson
+
+import questions
 
 FOLDER = pathlib.Path(tempfile.mkdtemp(dir="/dev/shm" if os.access("/dev/shm", os.W_OK) else None))
 atexit.register(shutil.rmtree, FOLDER, ignore_errors=True)
@@ -45,11 +48,19 @@ NUMBERS = [0, 1, 2, 0.0, -0.0, 1.0, 1.5, 1e300, {"$numberLong": "1"}, {"$numberL
 ONES = [1, 1.0, {"$numberLong": "1"}, {"$numberDecimal": "1"}]
 LEAVES = NUMBERS + [
     None, None, True, False, "", "a", "b", "1", "x" * 300, "x" * 299 + "y", {"$undefined": True}, {"$minKey": 1},
-    {"$oid": "650000000000000000000002"}, {"$date": {"$numberLong": "1"}}, {"$timestamp": {"t": 1, "i": 0}},
+    {"$oid": "650000000000000000000002"}, {"$date": {"$numberLong": "1"}}, {"$date": {"$numberLong": "-1"}}, {"$timestamp": {"t": 1, "i": 0}},
     {"$regularExpression": {"pattern": "a", "options": "i"}}, {"$binary": {"base64": "YQ==", "subType": "00"}},
     {"$binary": {"base64": "YQ==", "subType": "80"}}, {"$symbol": "a"}, {"$code": "a"}]
 KINDS = ["double", "string", "object", "array", "null", "int", "long", "number", "undefined"]
 RANGES = ["$gt", "$gte", "$lt", "$lte"]
+# Values that lie close to each other: beside whole numbers, at the ends of those of 64 bits, and texts with one beginning.
+CLOSE = [
+    [0, 0.5, -0.5, 1, 1.5, 0.999, -1, {"$numberDecimal": "0.5"}, {"$numberDecimal": "-0.1"}, {"$numberDouble": "NaN"}, {"$numberDecimal": "NaN"}],
+    [{"$numberLong": "9223372036854775807"}, {"$numberLong": "-9223372036854775808"}, 9223372036854775807.0, -9.3e18, 1e300,
+     {"$numberDouble": "Infinity"}, {"$numberDouble": "-Infinity"}, {"$numberDecimal": "9223372036854775808"}, 0],
+    ["", "a", "aaaaaaa", "aaaaaaaa", "aaaaaaab", "aaaaaab", {"$symbol": "aaaaaaaa"}, "\u00e4\u00e4\u00e4\u00e4", "\u00ff"],
+    [{"$date": {"$numberLong": str(n)}} for n in (-1, 0, 1, 9223372036854775807, -9223372036854775808)],
+]
 
 
 class Lists:
@@ -62,7 +73,7 @@ class Lists:
         # The paths and the values of this list are few, so that what is asked meets what is there.
         self.paths = self.chance.sample(PATHS, 3)
         self.met = {path: [None] for path in PATHS}
-        self.leaves = self.chance.sample(LEAVES, 3) + [None] + (ONES if self.happens(0.3) else [])
+        self.leaves = self.chance.sample(LEAVES, 3) + [None] + (ONES if self.happens(0.3) else self.one_of(CLOSE) if self.happens(0.5) else [])
 
     def value(self, depth=0):
         if depth > 2 or self.happens(0.6):
@@ -99,10 +110,10 @@ class Lists:
             lambda: {"$ne": value()}, lambda: {"$nin": [value()]}, lambda: {"$exists": self.happens(0.5)},
             lambda: {"$type": self.one_of(KINDS)}, lambda: {"$not": {"$eq": value()}},
             lambda: {"$eq": value(), "$exists": True}, lambda: {self.one_of(RANGES): value()},
-            lambda: {"$gte": value(), "$lt": value()}, lambda: {"$all": [value() for _ in range(self.chance.randrange(3))]},
+            lambda: {self.one_of(RANGES[:2]): value(), self.one_of(RANGES[2:]): value()}, lambda: {"$all": [value() for _ in range(self.chance.randrange(3))]},
             lambda: {"$size": self.chance.randrange(3)}, lambda: {"$mod": [2, self.chance.randrange(2)]},
             lambda: {"$elemMatch": self.one_of([{self.one_of(RANGES): value()}, {"$eq": value()}, {"b": value()}])},
-        ], [10, 2, 4, 1, 1, 1, 1, 1, 1, 3, 2, 2, 1, 1, 2])[0]()
+        ], [10, 2, 4, 1, 1, 1, 1, 1, 1, 6, 5, 2, 1, 1, 2])[0]()
 
     def query(self, depth=0):
         if depth > 2 or self.happens(0.65):
@@ -250,11 +261,14 @@ SERVED = [
     (lambda n: {"$and": [{"text": {"$ne": 1}}, {"_id": {"$gte": 0}, "a.b": n}]}, 1),
     (lambda n: {"a.b": {"$eq": n, "$type": "array"}}, 1),
     (lambda n: {"$or": [{"a.b": n}, {"a.b": {"$type": ["array", "decimal"]}}, {"a": {"$type": "array"}}]}, 23),
+    (lambda n: {"a.b": {"$gte": n, "$lt": n + 3}}, 6),
+    (lambda n: {"$and": [{"a.b": {"$gt": n - 0.5}}, {"a.b": {"$lte": n + 1.5}}]}, 5),
+    (lambda n: {"text": {"$exists": True}, "a.b": {"$gt": {"$numberDecimal": str(n)}, "$lt": n + 2}}, 1),
 ]
 # Queries that it doesn't serve.
 NOT_SERVED = [
-    (lambda n: {"a.b": {"$gte": n, "$lt": n + 3}}, 6),
     (lambda n: {"a.b": {"$in": [n, None]}}, 5),
+    (lambda n: {"$or": [{"a.b": {"$gte": n, "$lt": n + 3}}, {"text": "y"}]}, 7),
     (lambda n: {"$or": [{"a.b": n}, {"text": "y"}]}, 5),
 ]
 
@@ -301,3 +315,4 @@ def measure():
 
 compare()
 measure()
+questions.by_indexes(PROGRAM)

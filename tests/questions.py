@@ -5,6 +5,8 @@ evaluation that is written from it, over values as Python has them.
     tests/questions.py                     the rows of cases/question: each answer is that of the evaluation
     tests/questions.py CASES [COUNT [SEED]]  random queries and documents too, as lines of the table `question` of CASES, the program
                                            of cases/
+    tests/questions.py --indexes FALLOWTIME [COUNT [SEED]]  random ranges of collections with indexes on the paths, in FALLOWTIME, the
+                                           program under that name: each finds what the evaluation does
 
 It ends with status 1 if an answer differs. Errors are compared by whether there is one; which one is held against by the table.
 """
@@ -18,6 +20,7 @@ import re
 import struct
 import subprocess
 import sys
+import tempfile
 from fractions import Fraction
 
 ROOT = pathlib.Path(__file__).resolve().parent.parent
@@ -477,6 +480,10 @@ SCALARS = ["0", "1", "2", "-3", "7", '{"$numberLong":"1"}', '{"$numberLong":"3"}
            '{"$regularExpression":{"pattern":"x","options":""}}']
 KEYS = ["a", "b", "0", "1"]
 OPERATORS = sorted(TESTS)
+RANGES = ["$gt", "$gte", "$lt", "$lte"]
+# Paths that have an index, and how many documents and queries a collection has.
+INDEXED = ["a", "b", "a.b", "a.0", "0"]
+DOCUMENTS, QUERIES = 40, 100
 
 
 class Lines:
@@ -557,6 +564,15 @@ class Lines:
     def line(self):
         return f"{self.query()} | {self.document()}"
 
+    def ranges(self):
+        """A query by one or two paths, of what is less or greater than an operand, or between two."""
+        def between():
+            return "{%s}" % ",".join(f'"{name}":{self.operand()}' for name in self.random.sample(RANGES, self.some(1, 2, 2)))
+
+        entries = {path: between() for path in self.random.sample(INDEXED, self.some(1, 1, 2))}
+        body = "{%s}" % ",".join(f'"{path}":{asked}' for path, asked in entries.items())
+        return self.some(body, body, '{"$and":[%s,%s]}' % (body, self.query(1)), '{"$or":[%s,%s]}' % (body, self.query(1)))
+
 
 def compare(lines, answers, name):
     """Says which answers differ, and ends with status 1 if one does."""
@@ -572,6 +588,46 @@ def compare(lines, answers, name):
     print(f"questions.py: {name}: {len(lines)} lines")
 
 
+def is_kept(document):
+    try:
+        value_of(tree_of(document))
+    except Refused:
+        return False
+    return True
+
+
+def found(answer):
+    """What the answer to a find has: the numbers of the documents, or that it was refused."""
+    return "refused" if "error" in answer else [int(document["_id"]["$numberInt"]) for document in answer["documents"]]
+
+
+def evaluated(query, documents):
+    answers = [answer(f"{query} | {document}") for document in documents]
+    return "refused" if "refused" in answers else [at for at, given in enumerate(answers) if given == "true"]
+
+
+def by_indexes(program, count="2000", seed="67"):
+    """Ranges are answered by indexes as by the evaluation."""
+    made, finds, lines = Lines(int(seed)), [], []
+    for name in (f"c{first}" for first in range(0, int(count), QUERIES)):
+        documents = [each for each in (made.document() for _ in range(DOCUMENTS)) if is_kept(each)]
+        lines += [f'["index","{name}","{path}"]' for path in INDEXED]
+        lines += ['["insert","%s",{"_id":%d,%s]' % (name, at, each[1:]) for at, each in enumerate(documents)]
+        for query in (made.ranges() for _ in range(QUERIES)):
+            finds.append((len(lines), query, documents))
+            lines.append(f'["find","{name}",{query},{{"fields":{{"_id":1}}}}]')
+    with tempfile.TemporaryDirectory() as folder:
+        done = subprocess.run([program, f"{folder}/ranges.db"], input="".join(line + "\n" for line in lines), capture_output=True, text=True, check=True)
+    answers = [json.loads(line) for line in done.stdout.splitlines()]
+    if len(answers) != len(lines):
+        sys.exit(f"questions.py: {len(answers)} answers to {len(lines)} lines: {done.stderr}")
+    differing = [f"{query}: {found(answers[at])}, and the evaluation: {wanted}" for at, query, documents in finds
+                 if found(answers[at]) != (wanted := evaluated(query, documents))]
+    if differing:
+        sys.exit("\n".join([f"questions.py: {len(differing)} of {len(finds)} ranges differ", *differing[:10]]))
+    print(f"questions.py: {len(finds)} ranges by indexes")
+
+
 def main(program=None, count="4000", seed="67"):
     table = ROOT / "cases" / "question"
     lines = (table / "stdin").read_text().splitlines()
@@ -585,4 +641,7 @@ def main(program=None, count="4000", seed="67"):
 
 
 if __name__ == "__main__":
-    main(*sys.argv[1:])
+    if sys.argv[1:2] == ["--indexes"]:
+        by_indexes(*sys.argv[2:])
+    else:
+        main(*sys.argv[1:])

@@ -1,5 +1,5 @@
-/* The requests of lines.py in one process over libbson and SQLite: each change is a transaction of its own in a file with a log, on the
- * disk before the next one. The answers are those of `fallowtime FILE`, but for blanks.
+/* The requests of lines.py in one process over libbson and SQLite: each change, or each list of requests, is a transaction of its own in
+ * a file with a log, on the disk before the next one. The answers are those of `fallowtime FILE`, but for blanks.
  *
  *     c_sqlite FILE < LINES > ANSWERS
  */
@@ -12,6 +12,8 @@
 
 static sqlite3 *database;
 static sqlite3_stmt *insert, *find, *update, *delete;
+/* What ends an answer: a line, or a comma in a list. */
+static char end = '\n';
 
 static void fail(const char *what) {
     fprintf(stderr, "%s: %s\n", what, sqlite3_errmsg(database));
@@ -73,20 +75,22 @@ static bool body_of(const char *name, bson_iter_t *id, bson_t *body) {
     return found == SQLITE_ROW && bson_init_static(body, sqlite3_column_blob(find, 0), sqlite3_column_bytes(find, 0));
 }
 
-static void answer_refused(const char *kind) { printf("{\"refused\":\"%s\"}\n", kind); }
+static void answer_error(const char *kind) { printf("{\"error\":\"%s\"}%c", kind, end); }
+
+static void answer_nothing(void) { printf("{}%c", end); }
 
 /* An object with one key. */
 static void answer_with(const bson_t *object) {
     size_t length;
     char *text = bson_as_canonical_extended_json(object, &length);
     fwrite(text, 1, length, stdout);
-    putchar('\n');
+    putchar(end);
     bson_free(text);
 }
 
 static void get(const char *name, bson_iter_t *id) {
     bson_t body, whole;
-    if (!body_of(name, id, &body)) return answer_refused("NotFound");
+    if (!body_of(name, id, &body)) return answer_error("NotFound");
     bson_init(&whole);
     bson_append_document(&whole, "document", 8, &body);
     sqlite3_reset(find);
@@ -99,7 +103,7 @@ static void set(const char *name, bson_iter_t *id, const char *key, bson_iter_t 
     bson_t body, changed;
     bson_iter_t at;
     bool was_there = false;
-    if (!body_of(name, id, &body)) return answer_refused("NotFound");
+    if (!body_of(name, id, &body)) return answer_error("NotFound");
     bson_init(&changed);
     bson_iter_init(&at, &body);
     while (bson_iter_next(&at)) {
@@ -111,12 +115,12 @@ static void set(const char *name, bson_iter_t *id, const char *key, bson_iter_t 
     sqlite3_reset(find);
     if (!put_back(name, id, &changed)) fail("it went away");
     bson_destroy(&changed);
-    puts("{}");
+    answer_nothing();
 }
 
 static void answer_insert(const char *name, bson_iter_t *id, const bson_t *document) {
     bson_t key;
-    if (!put_in(name, id, document)) return answer_refused("DuplicateId");
+    if (!put_in(name, id, document)) return answer_error("DuplicateId");
     key_of(id, &key);
     answer_with(&key);
     bson_destroy(&key);
@@ -145,14 +149,45 @@ static void answer(const bson_t *request) {
     if (strcmp(command, "remove") == 0) {
         if (step(delete, name, &at) != SQLITE_DONE) fail("delete");
         sqlite3_reset(delete);
-        return sqlite3_changes(database) == 1 ? (void)puts("{}") : answer_refused("NotFound");
+        return sqlite3_changes(database) == 1 ? answer_nothing() : answer_error("NotFound");
     }
     bson_iter_document(&at, &size, &bytes);
     bson_init_static(&document, bytes, size);
-    if (!bson_iter_init_find(&id, &document, "_id")) return answer_refused("NoId");
+    if (!bson_iter_init_find(&id, &document, "_id")) return answer_error("NoId");
     if (strcmp(command, "insert") == 0) return answer_insert(name, &id, &document);
     bool is_done = put_back(name, &id, &document) || (strcmp(command, "put") == 0 && put_in(name, &id, &document));
-    is_done ? (void)puts("{}") : answer_refused("NotFound");
+    is_done ? answer_nothing() : answer_error("NotFound");
+}
+
+/* The requests of a list, in one transaction. */
+static void answer_list(bson_iter_t *list) {
+    bson_iter_t at;
+    bson_t request;
+    const uint8_t *bytes;
+    uint32_t size;
+    bson_iter_recurse(list, &at);
+    fputs("{\"all\":[", stdout);
+    run("BEGIN");
+    for (bool more = bson_iter_next(&at); more;) {
+        bson_iter_array(&at, &size, &bytes);
+        bson_init_static(&request, bytes, size);
+        more = bson_iter_next(&at);
+        end = more ? ',' : ' ';
+        answer(&request);
+    }
+    run("COMMIT");
+    end = '\n';
+    puts("]}");
+}
+
+/* What a line asks for. */
+static void answer_line(const bson_t *request) {
+    bson_iter_t at;
+    bson_iter_init(&at, request);
+    bson_iter_next(&at);
+    bool is_list = strcmp(bson_iter_utf8(&at, NULL), "all") == 0;
+    if (is_list && bson_iter_next(&at)) return answer_list(&at);
+    answer(request);
 }
 
 int main(int count, char **words) {
@@ -170,7 +205,7 @@ int main(int count, char **words) {
         bson_error_t error;
         bson_t *request = bson_new_from_json((const uint8_t *)line, length, &error);
         if (!request) fail(error.message);
-        answer(request);
+        answer_line(request);
         fflush(stdout);
         bson_destroy(request);
     }

@@ -1,7 +1,8 @@
 #!/usr/bin/python3
-"""Lines of requests for `fallowtime FILE`: so many, mixed: inserts, gets, sets, replacements, puts and removals.
+"""Lines of requests for `fallowtime FILE`: so many, mixed: inserts, gets, sets, replacements, puts and removals; or lists of so many
+of them each, if a LENGTH is told.
 
-    lines.py NUMBER > LINES"""
+    lines.py NUMBER [LENGTH] > LINES"""
 import itertools
 import json
 import sys
@@ -23,5 +24,13 @@ def requests():
             yield ["remove", "d", n]
 
 
-for request in itertools.islice(requests(), int(sys.argv[1])):
-    print(json.dumps(request))
+def lists(length):
+    """The requests as lists of so many."""
+    each = requests()
+    while True:
+        yield ["all", list(itertools.islice(each, length))]
+
+
+number, length = int(sys.argv[1]), int(sys.argv[2]) if len(sys.argv) > 2 else 0
+for line in itertools.islice(lists(length), number // length) if length else itertools.islice(requests(), number):
+    print(json.dumps(line))

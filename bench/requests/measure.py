@@ -1,9 +1,9 @@
 #!/usr/bin/python3
 """Times programs that do the requests of lines.py on a new file each, by turns.
 
-    measure.py NUMBER ROUNDS NAME=COMMAND NAME=COMMAND ..
+    measure.py [--list LENGTH] NUMBER ROUNDS NAME=COMMAND NAME=COMMAND ..
 
-A command gets the name of the file as its last word, the requests as its input, and prints the answers. Prints the least
+With --list the requests come as lists of LENGTH. A command gets the name of the file as its last word, the requests as its input, and prints the answers. Prints the least
 processor time and the least time by the clock of each, and how many times that of the second one it is; and compares the
 answers with those of the first one, as values of JSON.
 """
@@ -31,13 +31,15 @@ def answers(path):
 
 
 def main():
-    number, rounds = int(sys.argv[1]), int(sys.argv[2])
-    programs = dict(word.split("=", 1) for word in sys.argv[3:])
+    words = sys.argv[1:]
+    length = words[1:2] if words[0] == "--list" else []
+    number, rounds, *named = words[2:] if length else words
+    programs = dict(word.split("=", 1) for word in named)
     found = {name: [] for name in programs}
     with tempfile.TemporaryDirectory() as folder:
         os.chdir(folder)
-        pathlib.Path("lines").write_bytes(subprocess.run([sys.executable, HERE / "lines.py", str(number)], check=True, stdout=subprocess.PIPE).stdout)
-        for at in range(rounds):
+        pathlib.Path("lines").write_bytes(subprocess.run([sys.executable, HERE / "lines.py", number, *length], check=True, stdout=subprocess.PIPE).stdout)
+        for at in range(int(rounds)):
             for name, command in programs.items():
                 file = f"{name}{at}.db"
                 with open("lines", "rb") as given, open(f"{name}.out", "wb") as out:

@@ -1,6 +1,6 @@
 #!/usr/bin/python3
-"""The requests of lines.py in one process of Python over sqlite3 and bson: each change is a transaction of its own in a file with a
-log, on the disk before the next one. The answers are those of `fallowtime FILE`.
+"""The requests of lines.py in one process of Python over sqlite3 and bson: each change, or each list of requests, is a transaction of
+its own in a file with a log, on the disk before the next one. The answers are those of `fallowtime FILE`.
 
     python_sqlite.py FILE < LINES > ANSWERS"""
 import json
@@ -63,6 +63,15 @@ def answer(command, name, first, *more):
     return {}
 
 
+def answer_list(requests):
+    """What the requests of a list are answered, in one transaction."""
+    base.execute("BEGIN")
+    answers = [answer(*request) for request in requests]
+    base.execute("COMMIT")
+    return {"all": answers}
+
+
 for line in sys.stdin.buffer:
     request = json_util.loads(line, json_options=OPTIONS)
-    print(json_util.dumps(answer(*request), json_options=OPTIONS, separators=(",", ":")), flush=True)
+    told = answer_list(request[1]) if request[0] == "all" else answer(*request)
+    print(json_util.dumps(told, json_options=OPTIONS, separators=(",", ":")), flush=True)

@@ -7,3 +7,16 @@ pub mod FindLemmas
 pub mod MarkLemmas
 pub mod ServingLemmas
 pub mod RemoveLemmas
+pub mod RankedLemmas
+pub mod PartLemmas
+pub mod CodeLemmas
+pub mod MoveLemmas
+pub mod KeepLemmas
+pub mod PlaceLemmas
+pub mod PlaceVisitLemmas
+pub mod AskLemmas
+pub mod GatherLemmas
+pub mod AddLemmas
+pub mod RewriteLemmas
+pub mod ChangeLemmas
+pub mod WholeLemmas

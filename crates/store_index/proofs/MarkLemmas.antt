@@ -3,21 +3,28 @@ use Rattle.std.proofs.Common.{◌≡◌, ◌↔◌, ◌≤◌, ◌+◌, ℕ, zer
 use Rattle.std.specs.Prelude.{IsSomeAnd, MatchOption}
 use Rattle.std.proofs.lemmas.Bool.{cases_lt}
 use Rattle.std.proofs.lemmas.List.{length-map, take_all, take-map}
-use Rattle.bson_base.specs.Value.{document, Members, value_kind}
+use Rattle.bson_base.specs.Kinds.{IsClean, IsSound}
+use Rattle.bson_base.specs.Value.{Value, document, Members, value_kind}
 use Rattle.bson_base.specs.declared.spec.ElementType.{ElementType}
 use Rattle.bson_bytes.specs.Encode.{encode}
+use Rattle.bson_frame.specs.Payload.{IsEnvelope}
+use Rattle.bson_order.specs.Order.{rank}
+use Rattle.bson_raw.specs.Convert.{SpellsRawValue}
 use Rattle.bson_raw.specs.Raw.{raw_kind, ref_value}
 use Rattle.bson_raw.specs.declared.bson_ref.RawBsonRef.{RawBsonRef}
 use Rattle.store_filter.specs.Filters.{path_of}
 use Rattle.store_filter.specs.Views.{Finds}
-use Rattle.store_filter.proofs.ViewLemmas.{kind_shown}
+use Rattle.store_filter.proofs.MemberLemmas.{at_back, document_back}
+use Rattle.store_filter.proofs.ViewLemmas.{kind_shown, shows}
 use Rattle.store_filter.proofs.SelectLemmas.{asked_found}
 use Rattle.store_model.specs.Filter.{Path, at}
 use Rattle.store_model.specs.State.{IsKept}
 use Rattle.store_index.specs.Find.{FindsIn, FindsOf, HasUnder, IsAsBefore, MissesIn, RenewsIn}
 use Rattle.store_index.specs.Keys.{KeyAt}
 use Rattle.store_index.specs.Lists.{is_among}
-use Rattle.store_index.specs.Marks.{AreMarks, HasMark, IsOneOf, IsWide, LeadsToWide, Mark, under, wide, is_wide_kind}
+use Rattle.store_index.specs.Marks.{AreMarks, HasMark, IsOneOf, IsWide, LeadsToWide, Mark, ranked, under, wide, is_wide_kind}
+use Rattle.store_index.specs.Ranked.{AreThese, HasRanked, RankedAt}
+use Rattle.store_index.specs.Parts.{part}
 use Rattle.store_index.specs.Under.{HasPlace}
 use Rattle.store_index.specs.declared.index.Index.{Index}
 use Rattle.store_index.specs.declared.marks.Marks.{Marks}
@@ -25,22 +32,30 @@ use Rattle.store_index.proofs.FindLemmas.{no_key, one_key}
 
 -- ---- places under marks
 
-pub each_there : (ix : Index) (ms : Marks) (p : ℤ) → ((k : Vec ℕ Global) → IsSomeAnd ms.key (λ own. own.items ≡ k.items) → HasPlace ix.places k.items p) → (IsTrue ms.wide → IsTrue (is_among p ix.wide.places.items)) → (m : Mark) → IsOneOf ms m → HasUnder ix m p
-each_there ix ms p keys list (under k) one = keys k one
-each_there ix ms p keys list wide one = list one
+pub each_there : (ix : Index) (ms : Marks) (p : ℤ) → ((k : Vec ℕ Global) → IsSomeAnd ms.key (λ own. own.items ≡ k.items) → HasPlace ix.places k.items p) → ((r : ℕ) (q : ℤ) → AreThese ms.ranked r q → HasRanked ix.ranks r q p)
+    → (IsTrue ms.wide → IsTrue (is_among p ix.wide.places.items)) → (m : Mark) → IsOneOf ms m → HasUnder ix m p
+each_there ix ms p keys parts list (under k) one = keys k one
+each_there ix ms p keys parts list (ranked r q) one = parts r q one
+each_there ix ms p keys parts list wide one = list one
 
-pub each_gone : (ix : Index) (ms : Marks) (p : ℤ) → ((k : Vec ℕ Global) → IsSomeAnd ms.key (λ own. own.items ≡ k.items) → HasPlace ix.places k.items p → ⊥) → (IsTrue ms.wide → IsTrue (is_among p ix.wide.places.items) → ⊥) → (m : Mark) → IsOneOf ms m → HasUnder ix m p → ⊥
-each_gone ix ms p keys list (under k) one = keys k one
-each_gone ix ms p keys list wide one = list one
+pub each_gone : (ix : Index) (ms : Marks) (p : ℤ) → ((k : Vec ℕ Global) → IsSomeAnd ms.key (λ own. own.items ≡ k.items) → HasPlace ix.places k.items p → ⊥) → ((r : ℕ) (q : ℤ) → AreThese ms.ranked r q → HasRanked ix.ranks r q p → ⊥)
+    → (IsTrue ms.wide → IsTrue (is_among p ix.wide.places.items) → ⊥) → (m : Mark) → IsOneOf ms m → HasUnder ix m p → ⊥
+each_gone ix ms p keys parts list (under k) one = keys k one
+each_gone ix ms p keys parts list (ranked r q) one = parts r q one
+each_gone ix ms p keys parts list wide one = list one
 
-pub each_same : (old new : Index) (p : ℤ) → ((k : Vec ℕ Global) → HasPlace old.places k.items p → HasPlace new.places k.items p) → (IsTrue (is_among p old.wide.places.items) → IsTrue (is_among p new.wide.places.items)) → (m : Mark) → HasUnder old m p → HasUnder new m p
-each_same old new p keys list (under k) = keys k
-each_same old new p keys list wide = list
+pub each_same : (old new : Index) (p : ℤ) → ((k : Vec ℕ Global) → HasPlace old.places k.items p → HasPlace new.places k.items p) → ((r : ℕ) (q : ℤ) → HasRanked old.ranks r q p → HasRanked new.ranks r q p)
+    → (IsTrue (is_among p old.wide.places.items) → IsTrue (is_among p new.wide.places.items)) → (m : Mark) → HasUnder old m p → HasUnder new m p
+each_same old new p keys parts list (under k) = keys k
+each_same old new p keys parts list (ranked r q) = parts r q
+each_same old new p keys parts list wide = list
 
 pub each_other : (old new : Index) (ms : Marks) (p : ℤ) → ((k : Vec ℕ Global) → (IsSomeAnd ms.key (λ own. own.items ≡ k.items) → ⊥) → HasPlace old.places k.items p → HasPlace new.places k.items p)
+    → ((r : ℕ) (q : ℤ) → (AreThese ms.ranked r q → ⊥) → HasRanked old.ranks r q p → HasRanked new.ranks r q p)
     → ((IsTrue ms.wide → ⊥) → IsTrue (is_among p old.wide.places.items) → IsTrue (is_among p new.wide.places.items)) → (m : Mark) → (IsOneOf ms m → ⊥) → HasUnder old m p → HasUnder new m p
-each_other old new ms p keys list (under k) none = keys k none
-each_other old new ms p keys list wide none = list none
+each_other old new ms p keys parts list (under k) none = keys k none
+each_other old new ms p keys parts list (ranked r q) none = parts r q none
+each_other old new ms p keys parts list wide none = list none
 
 -- ---- the marks of a document
 
@@ -48,9 +63,32 @@ own_key : (d : Members) (p : Path) (o : Option (Vec ℕ Global)) (k : Vec ℕ Gl
 own_key d p None k h = (λ is. absurd (no_key d p k.items h is), λ is. absurd is)
 own_key d p (Some own) k h = (λ is. one_key d p own.items k.items h is, λ is. subst (λ (x : List ℕ). KeyAt d p (Some x)) is h)
 
-pub marked : (d : Members) (p : Path) (ms : Marks) → MatchOption ms.key (KeyAt d p None) (λ own. KeyAt d p (Some own.items)) → IsTrue ms.wide ↔ IsWide d p → AreMarks d p ms
-marked d p ms keys list (under k) = own_key d p ms.key k keys
-marked d p ms keys list wide = (list.1, list.0)
+pub marked : (d : Members) (p : Path) (ms : Marks) → MatchOption ms.key (KeyAt d p None) (λ own. KeyAt d p (Some own.items)) → ((r : ℕ) (q : ℤ) → RankedAt d p r q ↔ AreThese ms.ranked r q) → IsTrue ms.wide ↔ IsWide d p → AreMarks d p ms
+marked d p ms keys parts list (under k) = own_key d p ms.key k keys
+marked d p ms keys parts list (ranked r q) = parts r q
+marked d p ms keys parts list wide = (list.1, list.0)
+
+of_value : (o : Option Value) (v : Value) (k : ℕ) (z : ℤ) → o ≡ Some v → k ≡ rank (value_kind v) → z ≡ part v → (r : ℕ) (q : ℤ) → IsSomeAnd o (λ w. (rank (value_kind w) ≡ r) × (part w ≡ q)) ↔ ((k ≡ r) × (z ≡ q))
+of_value None v k z e a b r q = absurd (cc)
+of_value (Some w) v k z e a b r q =
+    let same : v ≡ w = cc in
+    let ranks : k ≡ rank (value_kind w) = a ∙ ap (λ x. rank (value_kind x)) same in
+    let parts : z ≡ part w = b ∙ ap part same in
+    (λ h. (ranks ∙ h.0, parts ∙ h.1), λ h. (sym ranks ∙ h.0, sym parts ∙ h.1))
+
+-- of what is at the path, by its view
+pub ranked_found : (raw : RawBsonRef) (d : Members) (bytes : List ℕ) (p : Path) (k : ℕ) (z : ℤ) → IsClean (document d) → IsSound (document d) → bytes ≡ encode d → IsEnvelope bytes → Finds (Some raw) (at (document d) p)
+    → k ≡ rank (raw_kind (ref_value raw)) → ((v : Value) → SpellsRawValue (ref_value raw) v → z ≡ part v) → (r : ℕ) (q : ℤ) → RankedAt d p r q ↔ AreThese (Some (k, z)) r q
+ranked_found raw d bytes p k z clean sound is envelope f kind parts =
+    let back = at_back p (document d) f.0 (document_back d bytes envelope clean sound is) f.1 in
+    of_value (at (document d) p) f.0 k z f.1 (kind ∙ ap rank (kind_shown raw f.0 f.2)) (parts f.0 (shows raw f.0 f.2 back))
+
+nothing_of : (o : Option Value) → o ≡ None → (r : ℕ) (q : ℤ) → IsSomeAnd o (λ w. (rank (value_kind w) ≡ r) × (part w ≡ q)) ↔ ⊥
+nothing_of None e r q = (λ h. h, λ h. h)
+nothing_of (Some w) e r q = absurd (cc)
+
+pub none_ranked : (d : Members) (p : Path) → at (document d) p ≡ None → (r : ℕ) (q : ℤ) → RankedAt d p r q ↔ AreThese None r q
+none_ranked d p e = nothing_of (at (document d) p) e
 
 -- ---- the way along a path
 

@@ -8,7 +8,8 @@ use Rattle.store_filter.specs.Filters.{path_of}
 use Rattle.store_model.specs.Filter.{Path}
 use Rattle.store_model.specs.State.{IsKept}
 use Rattle.store_index.specs.Lists.{is_among}
-use Rattle.store_index.specs.Marks.{HasMark, Mark, under, wide}
+use Rattle.store_index.specs.Marks.{HasMark, Mark, ranked, under, wide}
+use Rattle.store_index.specs.Ranked.{HasRanked}
 use Rattle.store_index.specs.Under.{HasPlace}
 use Rattle.store_index.specs.declared.index.Index.{Index}
 use Rattle.store_index.specs.declared.indexes.Indexes.{Indexes}
@@ -28,9 +29,10 @@ HasNone ixs = ixs.list.items ≡ []
 abbrev pub AreSame : Indexes → Indexes → Type 0
 AreSame old new = new.list.items ≡ old.list.items
 
--- the index has the place under a mark: under a key, or in its list of wide documents
+-- the index has the place under a mark: under a key, under a rank and a part, or in its list of wide documents
 abbrev pub HasUnder : Index → Mark → ℤ → Type 0
 HasUnder ix (under k) place = HasPlace ix.places k.items place
+HasUnder ix (ranked r q) place = HasRanked ix.ranks r q place
 HasUnder ix wide place = IsTrue (is_among place ix.wide.places.items)
 
 -- the place of the document is under each mark that the document has

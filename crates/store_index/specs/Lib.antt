@@ -2,6 +2,14 @@ pub mod Lists
 pub mod Propositions
 pub mod Under
 pub mod Keys
+pub mod Ranked
 pub mod Marks
 pub mod Find
 pub mod Serving
+pub mod Fronts
+pub mod Parts
+pub mod Kept
+pub mod Asking
+pub mod Table
+pub mod Gathering
+pub mod Changing

@@ -6,21 +6,24 @@ ghost use Rattle.store_filter.specs.Filters.{path_of};
 ghost use Rattle.store_index.specs.Find.{FindsIn, FindsOf, HasUnder, IsAsBefore, IsOf, IsOn, MissesIn, RenewsIn, coll_of, keys_of};
 ghost use Rattle.store_index.specs.Lists.{is_among};
 ghost use Rattle.store_index.specs.Marks.{IsOneOf, Mark};
+ghost use Rattle.store_index.specs.Ranked.{AreThese, HasRanked};
 ghost use Rattle.store_index.specs.Under.{HasPlace};
 
 use crate::ascending::Ascending;
 use crate::keys::is_same_path;
 use crate::marks::{Marks, marks_on};
 use crate::places::Places;
+use crate::ranks::Ranks;
 use std::alloc::{AllocError, Global};
 
-/// The places of a collection's documents by the meaning of the value at a path, and of those in which the way along the
-/// path meets an array or a decimal: such a value can be equal to those of other keys.
+/// The places of a collection's documents by the meaning of the value at a path, by its rank and its part, and of those in
+/// which the way along the path meets an array or a decimal: such a value can be equal to those of other keys.
 #[derive(Drop)]
 pub struct Index {
     pub(crate) coll: String,
     pub(crate) path: Vec<String>,
     pub(crate) places: Places,
+    pub(crate) ranks: Ranks,
     pub(crate) wide: Ascending,
 }
 
@@ -60,6 +63,38 @@ fn take_key(places: &mut Places, key: Option<Vec<u8>>, place: i64) -> Result<(),
             places.take(key, place)?;
             Ok(())
         }
+    }
+}
+
+/// Puts a place under a rank and a part, if there are any.
+fn put_rank(ranks: &mut Ranks, ranked: Option<(u8, i64)>, place: i64) -> Result<(), AllocError>
+    ensures there { (r : ℕ) (q : ℤ) → AreThese ranked r q
+        → OnOk result (HasRanked ranks.new r q place) }
+    ensures kept { (r : ℕ) (q p : ℤ) → HasRanked ranks.old r q p
+        → OnOk result (HasRanked ranks.new r q p) }
+    ensures others { (r : ℕ) (q p : ℤ) → (AreThese ranked r q → ⊥)
+        → OnOk result (HasRanked ranks.new r q p → HasRanked ranks.old r q p) }
+    ensures only { (r : ℕ) (q p : ℤ) → p ≢ place
+        → OnOk result (HasRanked ranks.new r q p → HasRanked ranks.old r q p) }
+{
+    match ranked {
+        None => Ok(()),
+        Some((rank, part)) => {
+            ranks.put(rank, part, place)?;
+            Ok(())
+        }
+    }
+}
+
+/// Takes a place from under a rank and a part, if there are any.
+fn take_rank(ranks: &mut Ranks, ranked: Option<(u8, i64)>, place: i64)
+    ensures gone { (r : ℕ) (q : ℤ) → AreThese ranked r q → HasRanked ranks.new r q place → ⊥ }
+    ensures kept { (r : ℕ) (q p : ℤ) → p ≢ place → HasRanked ranks.old r q p
+        → HasRanked ranks.new r q p }
+    ensures only { (r : ℕ) (q p : ℤ) → HasRanked ranks.new r q p → HasRanked ranks.old r q p }
+{
+    if let Some((rank, part)) = ranked {
+        ranks.take(rank, part, place);
     }
 }
 
@@ -104,6 +139,7 @@ impl Index {
             coll,
             path,
             places: Places::new(alloc),
+            ranks: Ranks::new(alloc),
             wide: Ascending::new(alloc),
         }
     }
@@ -119,8 +155,9 @@ impl Index {
             → OnOk result (HasUnder self.new m p → HasUnder self.old m p) }
         ensures same { IsAsBefore self.old self.new }
     {
-        let Marks { key, wide } = marks;
+        let Marks { key, ranked, wide } = marks;
         put_wide(&mut self.wide, wide, place)?;
+        put_rank(&mut self.ranks, ranked, place)?;
         put_key(&mut self.places, key, place)?;
         Ok(())
     }
@@ -134,8 +171,9 @@ impl Index {
             → HasUnder self.old m p) }
         ensures same { IsAsBefore self.old self.new }
     {
-        let Marks { key, wide } = marks;
+        let Marks { key, ranked, wide } = marks;
         take_wide(&mut self.wide, wide, place);
+        take_rank(&mut self.ranks, ranked, place);
         take_key(&mut self.places, key, place)?;
         Ok(())
     }

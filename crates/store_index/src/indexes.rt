@@ -1,16 +1,22 @@
 //! The indexes of a store: several collections, and several paths of one.
 
-ghost use Rattle.std.specs.Prelude.{◌≡◌, ◌≢◌, ◌⊎◌, ◌↔◌, ℕ, ℤ, List, IfOk, IfSome, IsTrue, OnOk, OnErr, string_bytes};
+ghost use Rattle.std.specs.Prelude.{◌≡◌, ◌≢◌, ◌⊎◌, ◌↔◌, ◌≤◌, ◌/◌, ℕ, ℤ, List, IfOk, IfSome, IsTrue, OnOk, OnErr, string_bytes};
 ghost use Rattle.store_filter.specs.Filters.{filter_of, path_of};
 ghost use Rattle.store_model.specs.Filter.{Path};
 ghost use Rattle.store_index.specs.Find.{AreAsBefore, AreSame, FindsOf, FindEach, Finds, Has, HasNone, MissEach, Misses, MissesIn, RenewEach, Renews, coll_of, keys_of, kinds_of};
+ghost use Rattle.store_index.specs.Fronts.{LiesInAll, Passes};
 ghost use Rattle.store_index.specs.Lists.{Ascends};
-ghost use Rattle.store_index.specs.Serving.{Covers, IsBy};
+ghost use Rattle.store_index.specs.Serving.{Covers, IsBy, IsSelected};
 
+use crate::front::Front;
 use crate::index::Index;
-use crate::serving::{fewer, places_by};
+use crate::range::Range;
+use crate::serving::{fewer, places_by, places_of_ranges};
 use std::alloc::{AllocError, Global};
 use store_filter::Filter;
+
+/// The part of all places that a range may have: one in so many.
+const GATHERED_PART: usize = 4;
 
 /// Indexes, which all find each document that was noted since they came.
 #[derive(Drop)]
@@ -272,14 +278,28 @@ impl Indexes {
 
     /// The places, ascending, of all documents of a collection that a filter selects, and maybe of more: the fewest
     /// that an index gives. None: no index serves it.
-    pub fn places_for(&self, coll: &[u8], filter: &Filter) -> Result<Option<Vec<i64>>, AllocError>
+    fn places_of_filter(&self, coll: &[u8], filter: &Filter) -> Result<Option<Vec<i64>>, AllocError>
         ensures ascending { IfOk result (λ o. IfSome o (λ v. Ascends v.items)) }
         ensures all { IfOk result (λ o. IfSome o (λ v. Covers self.now coll.now
-            (filter_of filter.now) v.items)) }
+            (IsSelected (filter_of filter.now)) v.items)) }
     {
         let mut best = None;
         for index in self.list.as_slice() {
             best = better(self.alloc, index, coll, filter, best)?;
+        }
+        Ok(best)
+    }
+
+    /// The places, ascending, of all documents of a collection that pass what is in front of a question, and maybe of
+    /// more: the fewest that an index gives for the filter or for one of the ranges. None: no index serves any.
+    pub fn places_for(&self, coll: &[u8], front: &Front<'_>) -> Result<Option<Vec<i64>>, AllocError>
+        ensures ascending { IfOk result (λ o. IfSome o (λ v. Ascends v.items)) }
+        ensures all { IfOk result (λ o. IfSome o (λ v. Covers self.now coll.now
+            (Passes front.now) v.items)) }
+    {
+        let mut best = self.places_of_filter(coll, front.filter)?;
+        for index in self.list.as_slice() {
+            best = better_by_ranges(self.alloc, index, coll, front.ranges, best)?;
         }
         Ok(best)
     }
@@ -293,11 +313,42 @@ fn better(
     filter: &Filter,
     best: Option<Vec<i64>>,
 ) -> Result<Option<Vec<i64>>, AllocError>
-    ensures { IfOk result (λ o. (o ≡ best) ⊎ IsBy index.now coll.now (filter_of filter.now) o) }
+    ensures { IfOk result (λ o. (o ≡ best)
+        ⊎ IsBy index.now coll.now (IsSelected (filter_of filter.now)) o) }
 {
     if !index.is_of(coll) {
         return Ok(best);
     }
     let places = places_by(alloc, index, filter)?;
+    Ok(fewer(best, places))
+}
+
+/// How many places of a range are gathered at the most: not more than are known, nor than a part of all, as rows that
+/// are read by their places cost more than all in their order.
+fn most_of(best: &Option<Vec<i64>>, all: usize) -> usize
+    ensures { result ≤ all / 4 }
+{
+    let part = all / GATHERED_PART;
+    match best {
+        Some(places) => part.min(places.len()),
+        None => part,
+    }
+}
+
+/// The places by an index, if it is one of the collection that serves one of the ranges, and they are fewer than others.
+fn better_by_ranges(
+    alloc: Global,
+    index: &Index,
+    coll: &[u8],
+    ranges: &[Range],
+    best: Option<Vec<i64>>,
+) -> Result<Option<Vec<i64>>, AllocError>
+    ensures { IfOk result (λ o. (o ≡ best) ⊎ IsBy index.now coll.now (LiesInAll ranges.now) o) }
+{
+    if ranges.is_empty() || !index.is_of(coll) {
+        return Ok(best);
+    }
+    let most = most_of(&best, index.ranks.len());
+    let places = places_of_ranges(alloc, index, ranges, most)?;
     Ok(fewer(best, places))
 }

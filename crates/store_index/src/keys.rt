@@ -39,7 +39,7 @@ pub(crate) fn key_of_value(alloc: Global, value: &Bson) -> Result<Option<Vec<u8>
 }
 
 /// Whether two paths have the same keys.
-pub(crate) fn is_same_path(a: &[String], b: &[String]) -> bool
+pub fn is_same_path(a: &[String], b: &[String]) -> bool
     ensures { IsTrue result ↔ (path_of a.now ≡ path_of b.now) }
 {
     a == b

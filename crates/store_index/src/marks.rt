@@ -1,6 +1,7 @@
-//! What an index has the place of a document under: the key of the value at its path, and that the document is wide.
+//! What an index has the place of a document under: the key of the value at its path, the rank and the part of that
+//! value, and that the document is wide.
 
-ghost use Rattle.std.specs.Prelude.{◌≡◌, ◌↔◌, IfOk, IsTrue};
+ghost use Rattle.std.specs.Prelude.{◌≡◌, ◌↔◌, ℕ, ℤ, IfOk, IsTrue};
 ghost use Rattle.bson_base.specs.Value.{Members};
 ghost use Rattle.bson_bytes.specs.Encode.{encode};
 ghost use Rattle.bson_raw.specs.View.{bytes_of};
@@ -8,9 +9,12 @@ ghost use Rattle.store_filter.specs.Filters.{path_of};
 ghost use Rattle.store_filter.specs.Views.{OfWritten};
 ghost use Rattle.store_model.specs.State.{IsKept};
 ghost use Rattle.store_index.specs.Marks.{AreMarks, IsWide, is_wide_kind, LeadsToWide};
+ghost use Rattle.store_index.specs.Ranked.{AreThese, RankedAt};
 
 use crate::keys::key_at;
+use crate::parts::part_of;
 use bson_base::ElementType;
+use bson_order::rank_of;
 use bson_raw::RawDocument;
 use std::alloc::{AllocError, Global};
 use store_filter::look_up;
@@ -20,6 +24,8 @@ use store_filter::look_up;
 pub struct Marks {
     /// The key of the value at the path, if one is there.
     pub key: Option<Vec<u8>>,
+    /// Its rank and its part.
+    pub ranked: Option<(u8, i64)>,
     /// Whether the way along the path meets an array or a decimal: such a value can be equal to those of other keys.
     pub wide: bool,
 }
@@ -32,6 +38,7 @@ pub(crate) fn marks_on(alloc: Global, body: &[u8], path: &[String]) -> Result<Ma
     let key = key_at(alloc, body, path)?;
     Ok(Marks {
         key,
+        ranked: rank_at(body, path),
         wide: is_wide(body, path),
     })
 }
@@ -70,4 +77,26 @@ fn is_wide(body: &[u8], path: &[String]) -> bool
         }
     }
     false
+}
+
+/// The rank and the part of the value at a path, if one is there.
+fn rank_in(document: RawDocument<'_>, path: &[String]) -> Option<(u8, i64)>
+    ensures { OfWritten (bytes_of document.entry) (λ d. (r : ℕ) (q : ℤ)
+        → RankedAt d (path_of path.now) r q ↔ AreThese result r q) }
+{
+    match look_up(document, path).0 {
+        Some(found) => Some((rank_of(found), part_of(found))),
+        None => None,
+    }
+}
+
+/// The same in a body's document. Bytes that are no document have none.
+fn rank_at(body: &[u8], path: &[String]) -> Option<(u8, i64)>
+    ensures { (d : Members) → IsKept d → body.now ≡ encode d → (r : ℕ) (q : ℤ)
+        → RankedAt d (path_of path.now) r q ↔ AreThese result r q }
+{
+    let Ok(document) = RawDocument::from_bytes(body) else {
+        return None;
+    };
+    rank_in(document, path)
 }

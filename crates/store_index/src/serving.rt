@@ -1,16 +1,19 @@
 //! Which documents a question can select, by an index.
 
-ghost use Rattle.std.specs.Prelude.{◌≡◌, ◌⊎◌, ℤ, IfOk, IfSome, IsTrue};
+ghost use Rattle.std.specs.Prelude.{◌≡◌, ◌⊎◌, ◌≤ℤ◌, ℤ, IfOk, IfSome, IsTrue};
 ghost use Rattle.std.specs.Prelude.{map};
 ghost use Rattle.bson_model.specs.View.{view};
 ghost use Rattle.store_filter.specs.Filters.{filter_of, path_of, tests_of};
 ghost use Rattle.store_model.specs.Filter.{all_of, any_of, equals, is_of};
 ghost use Rattle.store_index.specs.Lists.{Ascends, is_among};
-ghost use Rattle.store_index.specs.Serving.{IsServed};
+ghost use Rattle.store_index.specs.Fronts.{LiesIn, LiesInAll};
+ghost use Rattle.store_index.specs.Ranked.{HasRanked};
+ghost use Rattle.store_index.specs.Serving.{IsSelected, IsServed};
 
 use crate::index::Index;
 use crate::keys::{is_beginning, is_same_path, key_of_value};
 use crate::marks::is_wide_kind;
+use crate::range::Range;
 use crate::rising::once_each;
 use bson_base::ElementType;
 use bson_model::Bson;
@@ -24,7 +27,7 @@ fn places_of_value(
     value: &Bson,
 ) -> Result<Option<Vec<i64>>, AllocError>
     ensures { IfOk result (IsServed index.now
-        (equals (path_of index.now.path.items) (view value.now))) }
+        (IsSelected (equals (path_of index.now.path.items) (view value.now)))) }
 {
     let Some(key) = key_of_value(alloc, value)? else {
         return Ok(None);
@@ -41,7 +44,7 @@ fn places_of_kind(
     path: &[String],
     kind: ElementType,
 ) -> Result<Option<Vec<i64>>, AllocError>
-    ensures { IfOk result (IsServed index.now (is_of (path_of path.now) kind)) }
+    ensures { IfOk result (IsServed index.now (IsSelected (is_of (path_of path.now) kind))) }
 {
     if !is_wide_kind(kind) || !is_beginning(path, index.path.as_slice()) {
         return Ok(None);
@@ -56,7 +59,7 @@ pub(crate) fn places_by(
     index: &Index,
     filter: &Filter,
 ) -> Result<Option<Vec<i64>>, AllocError>
-    ensures { IfOk result (IsServed index.now (filter_of filter.now)) }
+    ensures { IfOk result (IsServed index.now (IsSelected (filter_of filter.now))) }
 {
     match filter {
         Filter::Eq(at, value) => {
@@ -79,7 +82,8 @@ fn places_of_least(
     index: &Index,
     filters: &[Filter],
 ) -> Result<Option<Vec<i64>>, AllocError>
-    ensures { IfOk result (IsServed index.now (all_of (tests_of (map filter_of filters.now)))) }
+    ensures { IfOk result (IsServed index.now
+        (IsSelected (all_of (tests_of (map filter_of filters.now))))) }
 {
     let mut least = None;
     for filter in filters {
@@ -96,7 +100,8 @@ fn places_of_each(
     index: &Index,
     filters: &[Filter],
 ) -> Result<Option<Vec<i64>>, AllocError>
-    ensures { IfOk result (IsServed index.now (any_of (tests_of (map filter_of filters.now)))) }
+    ensures { IfOk result (IsServed index.now
+        (IsSelected (any_of (tests_of (map filter_of filters.now))))) }
 {
     let mut all = Vec::new(alloc);
     for filter in filters {
@@ -127,4 +132,63 @@ pub(crate) fn fewer(a: Option<Vec<i64>>, b: Option<Vec<i64>>) -> Option<Vec<i64>
         (a, None) => a,
         (Some(a), Some(b)) => { if b.len() < a.len() { Some(b) } else { Some(a) } }
     }
+}
+
+/// The places of the documents whose value at the path of an index is between the ends of a range, if these aren't the
+/// wrong way round. None: there are more than `most`.
+fn places_between(
+    alloc: Global,
+    index: &Index,
+    range: &Range,
+    most: usize,
+) -> Result<Option<Vec<i64>>, AllocError>
+    ensures { (q p : ℤ) → range.now.low ≤ℤ q → q ≤ℤ range.now.high
+        → HasRanked index.now.ranks range.now.rank q p
+        → IfOk result (λ o. IfSome o (λ v. IsTrue (is_among p v.items))) }
+{
+    if range.high < range.low {
+        return Ok(Some(Vec::new(alloc)));
+    }
+    index
+        .ranks
+        .between(alloc, range.rank, range.low, range.high, most)
+}
+
+/// The places, ascending, of all documents that lie in a range, and maybe of more. None: it is of another path, or has
+/// more than `most` beside those of wide documents.
+fn places_of_range(
+    alloc: Global,
+    index: &Index,
+    range: &Range,
+    most: usize,
+) -> Result<Option<Vec<i64>>, AllocError>
+    ensures { IfOk result (IsServed index.now (LiesIn range.now)) }
+{
+    if !is_same_path(range.path.as_slice(), index.path.as_slice()) {
+        return Ok(None);
+    }
+    let Some(places) = places_between(alloc, index, range, most)? else {
+        return Ok(None);
+    };
+    let mut all = Vec::from_slice(alloc, index.wide.as_slice())?;
+    all.extend_from_slice(places.as_slice())?;
+    in_order(alloc, all)
+}
+
+/// The places, ascending, of all documents that lie in each of these ranges, and maybe of more: the fewest that the
+/// index has for one of them. None: it serves none of these, or each has more than `most`.
+pub(crate) fn places_of_ranges(
+    alloc: Global,
+    index: &Index,
+    ranges: &[Range],
+    most: usize,
+) -> Result<Option<Vec<i64>>, AllocError>
+    ensures { IfOk result (IsServed index.now (LiesInAll ranges.now)) }
+{
+    let mut least = None;
+    for range in ranges {
+        let places = places_of_range(alloc, index, range, most)?;
+        least = fewer(least, places);
+    }
+    Ok(least)
 }

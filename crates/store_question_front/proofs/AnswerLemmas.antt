@@ -27,19 +27,19 @@ weaker P Q (Err e) f h = tt
 
 -- ---- what a question stands for
 
-as_at : (q : Question) (ks : Vec (String Global) Global) (b : Box Question Global) (t : Asked) → q ≡ At ks b → Reads (form_of q) t → Reads (at_form (path_of ks.items) (form_of b.value)) t
+pub as_at : (q : Question) (ks : Vec (String Global) Global) (b : Box Question Global) (t : Asked) → q ≡ At ks b → Reads (form_of q) t → Reads (at_form (path_of ks.items) (form_of b.value)) t
 as_at q ks b t e r = let same : form_of q ≡ at_form (path_of ks.items) (form_of b.value) = rw e (search (rules, the_lemmas)) in subst (λ (f : Form). Reads f t) same r
 
-as_whole : (q : Question) (ks : Vec (String Global) Global) (b : Box Question Global) (t : Asked) → q ≡ Whole ks b → Reads (form_of q) t → Reads (whole_form (path_of ks.items) (form_of b.value)) t
+pub as_whole : (q : Question) (ks : Vec (String Global) Global) (b : Box Question Global) (t : Asked) → q ≡ Whole ks b → Reads (form_of q) t → Reads (whole_form (path_of ks.items) (form_of b.value)) t
 as_whole q ks b t e r = let same : form_of q ≡ whole_form (path_of ks.items) (form_of b.value) = rw e (search (rules, the_lemmas)) in subst (λ (f : Form). Reads f t) same r
 
-as_all : (q : Question) (l : Vec Question Global) (t : Asked) → q ≡ All l → Reads (form_of q) t → Reads (all_form (forms_of (map form_of l.items))) t
+pub as_all : (q : Question) (l : Vec Question Global) (t : Asked) → q ≡ All l → Reads (form_of q) t → Reads (all_form (forms_of (map form_of l.items))) t
 as_all q l t e r = let same : form_of q ≡ all_form (forms_of (map form_of l.items)) = rw e (search (rules, the_lemmas)) in subst (λ (f : Form). Reads f t) same r
 
-as_any : (q : Question) (l : Vec Question Global) (t : Asked) → q ≡ Any l → Reads (form_of q) t → Reads (any_form (forms_of (map form_of l.items))) t
+pub as_any : (q : Question) (l : Vec Question Global) (t : Asked) → q ≡ Any l → Reads (form_of q) t → Reads (any_form (forms_of (map form_of l.items))) t
 as_any q l t e r = let same : form_of q ≡ any_form (forms_of (map form_of l.items)) = rw e (search (rules, the_lemmas)) in subst (λ (f : Form). Reads f t) same r
 
-as_compare : (q : Question) (c : Comparison) (v : RawBson) (t : Asked) → q ≡ Compare c v → Reads (form_of q) t → Reads (compare_form c (own_value v)) t
+pub as_compare : (q : Question) (c : Comparison) (v : RawBson) (t : Asked) → q ≡ Compare c v → Reads (form_of q) t → Reads (compare_form c (own_value v)) t
 as_compare q c v t e r = let same : form_of q ≡ compare_form c (own_value v) = rw e (search (rules, the_lemmas)) in subst (λ (f : Form). Reads f t) same r
 
 as_kind : (q : Question) (k : ElementType) (t : Asked) → q ≡ Kind k → Reads (form_of q) t → Reads (kind_form k) t

@@ -3,3 +3,5 @@ mod ArmLemmas
 mod FilterLemmas
 mod PathLemmas
 mod AnswerLemmas
+mod SpanLemmas
+mod RangeLemmas

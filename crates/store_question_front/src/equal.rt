@@ -41,8 +41,8 @@ pub(crate) fn either(alloc: Global, first: Filter, second: Filter) -> Result<Fil
     Ok(Filter::Or(filters))
 }
 
-/// A copy of a path for a filter to own. The error is a refused growth.
-fn copied(alloc: Global, path: &[String]) -> Result<Vec<String>, AllocError>
+/// A copy of a path for a filter or a range to own. The error is a refused growth.
+pub(crate) fn copied(alloc: Global, path: &[String]) -> Result<Vec<String>, AllocError>
     ensures { IfOk result (λ v. path_of v.items ≡ path_of path.now) }
 {
     let mut copy = Vec::new(alloc);

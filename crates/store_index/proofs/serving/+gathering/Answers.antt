@@ -3,6 +3,7 @@ use Rattle.bson_base.specs.Value.{document}
 use Rattle.store_filter.specs.Filters.{filter_of, tests_of}
 use Rattle.store_model.specs.Filter.{all_of, any_of}
 use Rattle.store_index.specs.Lists.{is_among}
+use Rattle.store_index.specs.Serving.{IsSelected}
 use Rattle.store_index.proofs.AmongLemmas.{over_there, under_there}
 use Rattle.store_index.proofs.ServingLemmas.{by_all, by_either, by_part, head_all, head_any, none_left}
 use Rattle.store_index.proofs.serving.+gathering.Goals as goal
@@ -13,9 +14,9 @@ places_of_least-loop-filter-preserved t c =
     let fs = c.args.filters.now in
     let low : i < length fs = omega (arith, c.loop-filter-test.true, c.loop-filter.auto.filter-index-end) in
     let whole = all_of (tests_of (map filter_of fs)) in
-    let part = by_part c.args.index.now (filter_of c.filter-item.result) whole c.in_ok-places.places (λ d all. (head_all fs i c.filter-item.result d low c.filter-item.is (c.loop-filter.invariant.narrow d all)).0) c.in_ok-places.ensures in
+    let part = by_part c.args.index.now (IsSelected (filter_of c.filter-item.result)) (IsSelected whole) c.in_ok-places.places (λ d all. (head_all fs i c.filter-item.result (document d) low c.filter-item.is (c.loop-filter.invariant.narrow (document d) all)).0) c.in_ok-places.ensures in
     record {
-      served = by_either c.args.index.now whole c.loop-filter.least c.in_ok-places.places c.fewer-least.result c.fewer-least.ensures c.loop-filter.invariant.served part;
+      served = by_either c.args.index.now (IsSelected whole) c.loop-filter.least c.in_ok-places.places c.fewer-least.result c.fewer-least.ensures c.loop-filter.invariant.served part;
       narrow = λ d all. (head_all fs i c.filter-item.result d low c.filter-item.is (c.loop-filter.invariant.narrow d all)).1;
     }
 
@@ -40,7 +41,7 @@ places_of_each-loop-filter-preserved t c =
 pub places_of_each-returns : goal.places_of_each-returns
 places_of_each-returns t c =
     let fs = c.args.filters.now in
-    by_all c.args.index.now (any_of (tests_of (map filter_of fs))) c.loop-filter.all.items c.in_order.result
+    by_all c.args.index.now (IsSelected (any_of (tests_of (map filter_of fs)))) c.loop-filter.all.items c.in_order.result
     (λ place body d found kept is any. elim (c.loop-filter.invariant.so_far place body d found kept is any) [
       | inl there ↦ there
       | inr left ↦ absurd (none_left fs c.loop-filter.filter-index (document d) (omega (arith, c.loop-filter-test.false)) left)

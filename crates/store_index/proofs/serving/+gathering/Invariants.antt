@@ -6,12 +6,12 @@ use Rattle.store_model.specs.Filter.{SelectsAll, SelectsAny, all_of}
 use Rattle.store_model.specs.State.{IsKept}
 use Rattle.store_index.specs.Find.{FindsIn}
 use Rattle.store_index.specs.Lists.{is_among}
-use Rattle.store_index.specs.Serving.{IsServed}
+use Rattle.store_index.specs.Serving.{IsSelected, IsServed}
 use Rattle.store_index.proofs.serving.+gathering.Given as goal
 
 abbrev pub invariant-places_of_least-loop-filter : goal.invariant-places_of_least-loop-filter
 invariant-places_of_least-loop-filter l = record {
-  served : IsServed l.index (all_of (tests_of (map filter_of l.filters))) l.least;
+  served : IsServed l.index (IsSelected (all_of (tests_of (map filter_of l.filters)))) l.least;
   narrow : (d : Value) → SelectsAll (tests_of (map filter_of l.filters)) d → SelectsAll (tests_of (map filter_of (drop l.filter-index l.filters))) d;
 }
 

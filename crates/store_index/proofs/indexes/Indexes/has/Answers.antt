@@ -4,7 +4,7 @@ use Rattle.store_filter.specs.Filters.{path_of}
 use Rattle.store_index.specs.Find.{Has, HasOn}
 use Rattle.store_index.specs.declared.index.Index.{Index}
 use Rattle.store_index.proofs.FindLemmas.{not_first}
-use Rattle.store_index.proofs.ServingLemmas.{index_head}
+use Rattle.store_index.proofs.ServingLemmas.{at_head}
 use Rattle.store_index.proofs.indexes.Indexes.has.Goals as goal
 
 pub loop-index-preserved : goal.loop-index-preserved
@@ -17,7 +17,7 @@ loop-index-preserved c =
     let ix = c.index-item.result in
     let is = rw c.as_slice-index-items.ensures.value at c.index-item.is in
     let low : i < length xs = (let n = ap length c.as_slice-index-items.ensures.value in omega (arith, n, c.loop-index-test.true, c.loop-index.auto.index-index-end)) in
-    let head = index_head xs i ix low is in
+    let head = at_head xs i ix low is in
     record { all = not_first coll path (drop i xs) (drop (i + 1) xs) ix (Has ixs coll path) head (λ one. let t = c.is_on.ensures.1 one in let f = c.if-is_on.false in absurd (cc)) c.loop-index.invariant.all }
 
 pub returns-then-is_on : goal.returns-then-is_on
@@ -29,7 +29,7 @@ returns-then-is_on c =
     let ix = c.index-item.result in
     let is = rw c.as_slice-index-items.ensures.value at c.index-item.is in
     let low : i < length xs = (let n = ap length c.as_slice-index-items.ensures.value in omega (arith, n, c.loop-index-test.true, c.loop-index.auto.index-index-end)) in
-    let head = index_head xs i ix low is in
+    let head = at_head xs i ix low is in
     (λ t. c.loop-index.invariant.all.0 (subst (λ (ys : List Index). HasOn ys coll path) (sym head) (inl (c.is_on.ensures.0 c.if-is_on.true))), λ h. refl)
 
 pub returns : goal.returns

@@ -1,11 +1,11 @@
 use Rattle.std.proofs.Common.{ℕ, ℤ, List, drop}
-use Rattle.store_filter.specs.Filters.{filter_of}
+use Rattle.store_index.specs.Fronts.{Passes}
 use Rattle.store_index.specs.Find.{Finds, FindEach}
 use Rattle.store_index.proofs.ServingLemmas.{IsBest}
 use Rattle.store_index.proofs.indexes.Indexes.places_for.Given as goal
 
 abbrev pub invariant-loop-index : goal.invariant-loop-index
 invariant-loop-index l = record {
-  best : IsBest l.self l.coll (filter_of l.filter) l.best;
+  best : IsBest l.self l.coll (Passes l.front) l.best;
   left : (p : ℤ) (b : List ℕ) → Finds l.self l.coll p b → FindEach (drop l.index-index l.self.list.items) l.coll p b;
 }

@@ -1,5 +1,0 @@
-pub mod Kept
-pub mod Asking
-pub mod Table
-pub mod Gathering
-pub mod Changing
