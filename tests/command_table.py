@@ -8,12 +8,13 @@ ARGUMENTS = {"Collection": "COLL", "Document": "DOC", "Id": "ID", "Key": "PATH",
              "Options": "", "Documents": "[INPUT]", "IndexPath": "PATH", "NewName": "NEW", "File": "PATH", "Folder": "DIR"}
 # The options beside --wait by the constants of the table.
 OPTIONS = {"NO_OPTION": [], "CANONICAL": ["--canonical"], "PRINTED": ["--canonical", "--bson"],
-           "FOUND": ["--sort", "--skip", "--limit", "--fields", "--without", "--canonical", "--bson"], "LINES": ["--json"], "MANY": ["--many"],
+           "FOUND": ["--sort", "--skip", "--limit", "--fields", "--without", "--canonical", "--bson"], "IMPORTED": ["--json", "--upsert", "--skip-existing"], "MANY": ["--many"],
            "FOUND_AFTER": ["--sort", "--skip", "--limit", "--fields", "--without", "--after", "--canonical", "--bson"],
-           "MANY_OR_UPSERT": ["--many", "--upsert"], "UPSERT": ["--upsert"], "COUNTED": ["--count", "--canonical"], "LITERAL": ["--key"]}
+           "MANY_OR_UPSERT": ["--many", "--upsert"], "UPSERT": ["--upsert"], "COUNTED": ["--count", "--canonical"], "LITERAL": ["--key"],
+           "PART": ["--skip", "--limit"], "DROPS": ["--drop"]}
 
 # The options that the script takes for the program.
-OF_SCRIPT = {"get": ["--pretty"], "find": ["--pretty"]}
+OF_SCRIPT = {"get": ["--pretty"], "find": ["--pretty"], "import": ["--batch"]}
 
 # The options that are more than a word.
 VALUED = ["--sort", "--skip", "--limit", "--fields", "--without", "--wait"]

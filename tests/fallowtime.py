@@ -62,15 +62,16 @@ COMMANDS = {
     "find-and-delete": (["c", "{}"], ["--canonical", "--bson", "--sort", "--skip", "--limit"]),
     "remove": (["c", "1"], []),
     "find": (["c"], ["--canonical", "--bson", "--sort", "--skip", "--limit"]),
-    "count": (["c"], []),
-    "import": (["c"], ["--json"]),
+    "count": (["c"], ["--skip", "--limit"]),
+    "import": (["c"], ["--json", "--upsert", "--skip-existing"]),
     "export": (["c"], []),
     "drop": (["c"], []),
-    "rename": (["c", "d"], []),
+    "rename": (["c", "d"], ["--drop"]),
     "copy": (["c", "d"], []),
     "collections": ([], []),
     "check": ([], []),
     "backup": (["copy.db"], []),
+    "apply": ([], []),
 }
 READERS = ["get", "find", "count", "export", "collections", "check"]
 steps = 0
@@ -154,7 +155,8 @@ for command, (places, own) in COMMANDS.items():
     for seconds in ["", "-1", "+1", "1.5", "1s", " 1", "18446744073709551616", "x"]:
         check([command, *places, "--wait", seconds], USAGE)
     check([command, *places, "--wait"], USAGE)
-    check([command, "--wait", "0", *places], USAGE if places else (1, b"", "refused: NoFile\n"))
+    lacking = "NoFile" if command in READERS else "NoFolder"
+    check([command, "--wait", "0", *places], USAGE if places else (1, b"", f"refused: {lacking}\n"))
 start("-shop.db")
 check("collections", USAGE)
 start("shop.db")
@@ -202,12 +204,17 @@ for option in "--skip", "--limit":
 for option in "--sort", "--skip", "--limit":
     check(["find", "orders", option], USAGE)
     check(["find", "orders", option, "1", option, "1"], USAGE)
-    check(["count", "orders", option, "1"], USAGE)
+check(["count", "orders", "--sort", "1"], USAGE)
 check('find orders {"city":"Ulm"} --wait 007 --bson', (0, BODIES[0], ""))
 check("find orders --bson", (0, BODIES[0] + BODIES[2] + BODIES[1], ""))
 check("export orders", (0, BODIES[0] + BODIES[2] + BODIES[1], ""))
 done("count orders", "3")
 done('count orders {"price":{"$exists":true}} --wait 18446744073709551615', "2")
+for options, count in [("--limit 2", 2), ("--limit 0", 0), ("--limit 9", 3), ("--skip 1", 2), ("--skip 3", 0), ("--skip 9", 0), ("--skip 1 --limit 1", 1), ("--limit 3 --skip 2", 1),
+                       ("--skip 18446744073709551615 --limit 18446744073709551615", 0), ('{"price":{"$exists":true}} --limit 1', 1)]:
+    done(f"count orders {options}", str(count))
+    if options.startswith("--"):
+        holds("as many as are found", len(run(*f"find orders {options}".split())[1].splitlines()), count)
 done("collections", "orders")
 done("check --wait 0", "3")
 refused('insert orders {"_id":1}', "DuplicateId _id 1")
@@ -251,6 +258,13 @@ for line, counts in [("update none {} $", (0, 0)), ("update ups {} $", (1, 1)), 
                      ("update ups {} $ --many", (3, 0)), ('update ups {"_id":{"$ne":2}} $ --many', (2, 0)), ('update ups {"n":7} $', (0, 0))]:
     done([word.replace("$", '{"$set":{"a.b":1.5},"$unset":{"c":1}}') if word == "$" else word for word in line.split(" ")], '{"matched":%d,"changed":%d}' % counts)
 done("find ups", '{"_id":1,"n":1,"a":{"b":1.5}}', '{"_id":2,"n":9223372036854775807,"a":{"b":1.5}}', '{"_id":3,"n":"x","a":{"b":1.5}}')
+# A document has the date at which it was updated, by a query that knows a date.
+BEFORE = int(time.time() * 1000)
+done('update ups {"_id":3} {"$currentDate":{"at":true}}', '{"matched":1,"changed":1}')
+for line, count in [('{"$gte":{"$date":{"$numberLong":"%d"}},"$lte":{"$date":{"$numberLong":"%d"}}}' % (BEFORE, time.time() * 1000), 1), ('{"$exists":true}', 1)]:
+    done(["count", "ups", '{"at":%s}' % line], str(count))
+check('update ups {} {"$currentDate":{"at":1}}', (2, b"", "words: update $currentDate at takes no such value\n"))
+done('update ups {"_id":3} {"$unset":{"at":1}}', '{"matched":1,"changed":1}')
 # One that is refused refuses all, by its place among those that are selected; and nothing is changed.
 for line, kind in [('update ups {} {"$inc":{"n":1}} --many', "Overflow document 1"), ('update ups {"_id":{"$ne":2}} {"$inc":{"n":1}} --many', "NotANumber document 1"),
                    ('update ups {"_id":3} {"$mul":{"n":2}}', "NotANumber document 0"), ('update ups {} {"$set":{"m":1,"n.x":1}} --many', "Through document 0"),
@@ -303,7 +317,43 @@ done('put whole {"_id":2}')
 for words, kind in [("rename none new", "NotFound"), ("copy none whole", "NotFound"), ("rename whole whole", "DuplicateId"), ("copy whole whole", "DuplicateId"),
                     (["copy", "whole", ""], "BadName"), (["rename", "", "whole"], "BadName"), (["drop", ""], "BadName")]:
     refused(words, kind)
+done('put other {"_id":3}')
+done('put other {"_id":2}')
+for words, kind in [("rename whole other", "DuplicateId"), ("rename whole whole --drop", "DuplicateId"), ("rename none other --drop", "NotFound"), ("rename none none --drop", "NotFound"),
+                    (["rename", "whole", "", "--drop"], "BadName")]:
+    refused(words, kind)
+done("find other", '{"_id":3}', '{"_id":2}')
+for words in ["copy whole other --drop", "drop other --drop", "rename whole other --drop --drop"]:
+    check(words, USAGE)
+done("rename whole other --drop", "1")
+done("find other", '{"_id":2}')
+done("find whole")
+done("rename other whole --drop", "1")
 done("drop whole", "1")
+
+# An import of documents whose _id is there, in the collection or in front of it in the input: refused, in the place of the others, left out.
+THERE = ['{"_id":1,"a":1}', '{"_id":2,"a":1}']
+COMES = ['{"_id":2,"a":2}', '{"_id":3.0,"a":2}', '{"_id":2,"a":3}', '{"_id":4}']
+for options, given in [("", "".join(f"{line}\n" for line in COMES).encode()), ("bson", b"".join(bson.encode(json.loads(line)) for line in COMES))]:
+    for option, left in [("", THERE), ("--upsert", [THERE[0], COMES[2], COMES[1], COMES[3]]), ("--skip-existing", [*THERE, COMES[1], COMES[3]])]:
+        for line in THERE:
+            done(f"put imp {line}")
+        words = ["import", "imp", *([] if options else ["--json"]), *([option] if option else [])]
+        if option:
+            check(words, (0, b"4\n", ""), given)
+        else:
+            holds(f"{words}: refused", run(*words, given=given)[::2][1].split()[:2], ["refused:", "DuplicateId"])
+        done("find imp", *left)
+        check([*words, "--wait", "1"], (0, b"0\n", ""), b"")
+        done("drop imp", str(len(left)))
+for option in "--upsert", "--skip-existing":
+    check(["import", "imp", option], (1, b"", "refused: NoId document 1\n"), bson.encode({"_id": 1}) + bson.encode({}))
+    check(["import", "imp", option], (1, b"", "refused: EndInside document 1\n"), bson.encode({"_id": 1}) + b"\x05\x00")
+    check(["import", "", option], (1, b"", "refused: BadName\n"), bson.encode({"_id": 1}))
+    check(["import", "imp", option, option], USAGE)
+    check(["export", "imp", option], USAGE)
+check(["import", "imp", "--upsert", "--skip-existing"], USAGE)
+done("find imp")
 done("remove orders 9")
 refused("remove orders 9", "NotFound _id 9")
 for line in ['put orders {"a":1}', 'replace orders {"a":1}', "put orders {}"]:

@@ -168,6 +168,21 @@ TABLE = [
     ('["copy","u",""]', '{"error":"BadName"}'),
     ('["find","u"]', '{"documents":[{"_id":%s,"n":%s},{"_id":%s}]}' % tuple(map(int32, (2, 1, 1)))),
     ('["count","v"]', '{"count":0}'),
+    ('["rename","u","w",{"drop":false}]', '{"error":"DuplicateId"}'),
+    ('["rename","w","w",{"drop":true}]', '{"error":"DuplicateId"}'),
+    ('["rename","t","w",{"drop":true}]', '{"error":"NotFound"}'),
+    ('["count","u",{},{"limit":1}]', '{"count":1}'),
+    ('["count","u",{},{"skip":1,"limit":5}]', '{"count":1}'),
+    ('["count","u",{},{"limit":0}]', '{"count":0}'),
+    ('["count","u",{},{"skip":18446744073709551615}]', '{"count":0}'),
+    ('{"id":7,"do":["count","u",{"n":1},{}]}', '{"id":7,"count":1}'),
+    ('["put","t",{"_id":9}]', "{}"),
+    ('{"id":7,"do":["rename","t","u",{"drop":true}]}', '{"id":7,"count":1}'),
+    ('["find","u"]', '{"documents":[{"_id":%s}]}' % int32(9)),
+    ('["rename","u","t",{}]', '{"count":1}'),
+    ('["copy","w","u"]', '{"count":2}'),
+    ('["rename","t","s",{"drop":true}]', '{"count":1}'),
+    ('["drop","s"]', '{"count":1}'),
     ('["drop","u"]', '{"count":2}'),
     ('["drop","u"]', '{"count":0}'),
     ('["drop","w"]', '{"count":2}'),
@@ -177,6 +192,16 @@ TABLE = [
     ('["import","d",%s]' % binary(ONE + TWO), '{"count":2}'),
     ('["import","d",[{"_id":3},{"_id":4,"a":2.5}]]', '{"count":2}'),
     ('["import","d",[{"_id":5},{"_id":4}]]', '{"error":"DuplicateId","document":1}'),
+    ('["import","e",[{"_id":1},{"_id":2,"a":1}]]', '{"count":2}'),
+    ('["import","e",[{"_id":2,"a":2},{"_id":3},{"_id":3,"a":3}],{"upsert":true}]', '{"count":3}'),
+    ('["import","e",[{"_id":2,"a":9},{"_id":4},{"_id":4,"a":9}],{"skip-existing":true}]', '{"count":3}'),
+    ('["find","e"]', '{"documents":[{"_id":%s},{"_id":%s,"a":%s},{"_id":%s,"a":%s},{"_id":%s}]}' % tuple(map(int32, (1, 2, 2, 3, 3, 4)))),
+    ('["import","e",[{"_id":4}],{"upsert":false}]', '{"error":"DuplicateId","document":0}'),
+    ('["import","e",[{"_id":4}],{"skip-existing":false}]', '{"error":"DuplicateId","document":0}'),
+    ('["import","e",[{"_id":4}],{}]', '{"error":"DuplicateId","document":0}'),
+    ('["import","e",%s,{"upsert":true}]' % binary(ONE[:-1]), '{"error":"EndInside","document":0}'),
+    ('["import","",[],{"upsert":true}]', '{"error":"BadName"}'),
+    ('["drop","e"]', '{"count":4}'),
     ('["import","d",%s]' % binary(ONE[:-1]), '{"error":"EndInside","document":0}'),
     ('["import","d",[]]', '{"count":0}'),
     ('["export","d"]', '{"bytes":%s}' % binary(ONE + TWO + bson.encode({"_id": 3}) + bson.encode({"_id": 4, "a": 2.5}))),
@@ -212,20 +237,29 @@ WRONG = [
     ("[", "byte 2"), ("nul", "byte 1"), ('["count","c"] 1', "byte 15"), ("\udcff", "byte 1"), ('["count","\udcff"]', "byte 11"),
     ('["insert","c",{"_id":1,"a":1,"a":2}]', "repeated key"), ('{"id":1,"id":2,"do":["collections"]}', "repeated key"),
     ("1", "command"), ("[]", "command"), ("{}", "command"), ('{"do":["collections"]}', "command"), ("[1]", "command"), ('["frob"]', "command"), ('["Count","c"]', "command"),
-    ('["count"]', "arguments"), ('["count","c",{},1]', "arguments"), ('["insert","c"]', "arguments"), ('["collections","c"]', "arguments"), ('["check","c"]', "arguments"),
+    ('["count"]', "arguments"), ('["count","c",{},1]', "options"), ('["count","c",{},{},{}]', "arguments"),
+    ('["count","c",{},{"limit":-1}]', "options"), ('["count","c",{},{"limit":1.0}]', "options"), ('["count","c",{},{"sort":{"a":1}}]', "options"),
+    ('["count","c",{},{"skip":1,"fields":{}}]', "options"), ('["count","c",1,{"limit":"1"}]', "query is no object"),
+    ('["insert","c"]', "arguments"), ('["collections","c"]', "arguments"), ('["check","c"]', "arguments"),
     ('["backup","b.db"]', "command"), ('{"do":["collections"],"more":1}', "command"),
     ('["count",1]', "collection"), ('["export",null]', "collection"),
     ('["insert","c",1]', "document"), ('["put","c",{"_id":{"$oid":"x"}}]', "document"), ('["insert","c",{"a":{"$oid":1}}]', "document"),
-    ('["import","c",[{"_id":1},2]]', "document 1"), ('["import","c",[{"_id":1},{"a":{"$numberInt":"x"}}]]', "document 1"),
+    ('["import","c",[{"_id":1},2]]', "document 1"), ('["import","c",[],1]', "options"), ('["import","c",[],{"upsert":true,"skip-existing":true}]', "options"),
+    ('["import","c",[],{"many":true}]', "options"), ('["import","c",[2],1]', "document 0"), ('["import","c",[],{},{}]', "arguments"),
+    ('["import","c",[{"_id":1},{"a":{"$numberInt":"x"}}]]', "document 1"),
     ('["get","c",{"$oid":"x"}]', "id"), ('["set","c",{"$date":1.5},"k",1]', "id"), ('["set","c",1,2,3]', "key"), ('["unset","c",1,null]', "key"),
     ('["set","c",1,"k",{"$numberInt":"x"}]', "value"), ('["index","c",["a"]]', "path"), ('["drop_index","c",1]', "path"),
     ('["index","c"]', "arguments"), ('["index",1,1]', "collection"), ('["drop_index","c","a",1]', "arguments"),
-    ('["drop"]', "arguments"), ('["drop","c","d"]', "arguments"), ('["rename","c"]', "arguments"), ('["copy","c",1]', "collection"), ('["rename",1,"c"]', "collection"),
+    ('["drop"]', "arguments"), ('["drop","c","d"]', "arguments"), ('["rename","c"]', "arguments"), ('["rename","c","d",1]', "options"),
+    ('["rename","c","d",{"drop":1}]', "options"), ('["rename","c","d",{"upsert":true}]', "options"), ('["rename","c","d",{},{}]', "arguments"),
+    ('["rename","c",1,1]', "collection"), ('["copy","c","d",{"drop":true}]', "arguments"),
+    ('["copy","c",1]', "collection"), ('["rename",1,"c"]', "collection"),
     ('["find","c",1]', "query is no object"), ('["find","c",{"a":{"$near":1}}]', "query no operator $near"),
     ('["find","c",{"a":{"$regex":"x"}}]', "query $regex takes no such value"),
     ('["count","c",{"a.b":{"$exists":2.5}}]', "query $exists takes no such value"),
     ('["update","c",{}]', "arguments"), ('["update","c",{},{},{},1]', "arguments"), ('["update","c",1,{}]', "query is no object"), ('["update","c",{},[]]', "update is no object"),
-    ('["update","c",{},{"a":1}]', "update no operator a"), ('["update","c",{},{"$currentDate":{"a":true}}]', "update no operator $currentDate"),
+    ('["update","c",{},{"a":1}]', "update no operator a"), ('["update","c",{},{"$currentDate":{"a":false}}]', "update $currentDate a takes no such value"),
+    ('["update","c",{},{"$currentDate":{"a":{"$type":"timestamp"}}}]', "update $currentDate a takes no such value"),
     ('["update","c",{},{"$set":1}]', "update $set takes an object of paths"), ('["update","c",{},{"$set":{"a..b":1}}]', "update $set a..b is no path of keys"),
     ('["update","c",{},{"$set":{"_id.a":1}}]', "update $set _id.a is of the _id, which is never changed"),
     ('["update","c",{},{"$set":{"a":1},"$inc":{"a.b":1}}]', "update $inc a.b meets another path"), ('["update","c",{},{"$inc":{"a":"x"}}]', "update $inc a takes no such value"),
@@ -244,7 +278,7 @@ WRONG = [
     ('["find","c",{},{"sort":{"a":2}}]', "options"), ('["find","c",{},{"sort":{"a":"1"}}]', "options"),
     ('["find","c",{},{"many":true}]', "options"), ('["update","c",{},{},{"limit":1}]', "options"),
     ('["find","c",1,{"limit":"x"}]', "query is no object"), ('["find",1,{},{"limit":"x"}]', "collection"),
-    ('["find","c",{},{},1]', "arguments"), ('["count","c",{},{}]', "arguments"),
+    ('["find","c",{},{},1]', "arguments"), ('["count","c",{},{},1]', "arguments"),
     ('["import","c","x"]', "stream"), ('["import","c",%s]' % binary(ONE, "05"), "stream"), ('["import","c",1]', "stream"),
     ('["set","c",1,"a"]', "arguments"), ('["set","c",1,"a",1,{},1]', "arguments"), ('["unset","c",1]', "arguments"), ('["unset","c",1,"a",{},1]', "arguments"),
     ('["set","c",1,"a.b",1,{"key":1}]', "options"), ('["set","c",1,"a.b",1,1]', "options"), ('["unset","c",1,"a.b",{"many":true}]', "options"),
@@ -286,6 +320,29 @@ holds("ids that are made", (len(set(made)), {len(one) for one in made}), (101, {
 holds("the first document", run(line_of("get", "m", {"$oid": made[0]}), "made.db")[1], ['{"document":{"_id":{"$oid":"%s"},"a":%s}}' % (made[0], int32(1))])
 holds("of many", run(line_of("import", "n", [{"a": 1}] * 50), "made.db")[1], ['{"count":50}'])
 holds("by their seconds", all(abs(int(one[:8], 16) - time.time()) < 3600 for one in made), True)
+
+# The date that an update asks for is the moment at which its line is read, also in a session that is open for long, and one for a list.
+def dates_of(document):
+    return {int(document[key]["$date"]["$numberLong"]) for key in document if key != "_id"}
+
+
+holds("documents to be dated", run(line_of("import", "t", [{"_id": number} for number in range(3)]), "dates.db")[1], ['{"count":3}'])
+DATED = {"$currentDate": {"a": True, "b": {"$type": "date"}}}
+process = subprocess.Popen([PROGRAM, str(FOLDER / "dates.db")], stdin=subprocess.PIPE, stdout=subprocess.PIPE)
+for step, request in [
+    ("update", ["update", "t", {"_id": 0}, DATED]), ("update of all", ["update", "t", {}, DATED, {"many": True}]),
+    ("find-and-update", ["find-and-update", "t", {"_id": 0}, DATED]), ("upsert", ["update", "t", {"_id": 9}, DATED, {"upsert": True}]),
+    ("what is asked for twice", ["update", "t", {"_id": 0}, DATED]),
+]:
+    time.sleep(0.05)
+    before = time.time_ns() // 10**6
+    process.stdin.write(line_of(*request) + line_of("get", "t", 9 if step == "upsert" else 0))
+    process.stdin.flush()
+    answers = [json.loads(process.stdout.readline()) for _ in range(2)]
+    dates = dates_of(answers[1]["document"])
+    holds(f"the date of {step}", (len(dates), before <= min(dates) <= time.time_ns() // 10**6), (1, True))
+process.stdin.close()
+holds("the end of dates", process.wait(), 0)
 
 # What is asked of arrays, of ranges and of items, without an index and with some: the answers stay.
 LISTED = b"".join(b'["%s","customers",%s]\n' % (command, query.encode()) for query, _ in ASKED for command in (b"count", b"find"))

@@ -207,7 +207,7 @@ for name, (places, forms) in ALL.items() if PROGRAM else []:
         holds(f"{words}", run(PROGRAM, *words), (0, out, ""))
     usage = " ".join(["fallowtime FILE", name, *places.split(), *([command_table.words_of(forms)] if forms else []), "[--wait SECONDS]"])
     holds(f"{name}: its words", out.split("\n")[0], usage)
-    holds(f"{name}: its options", re.findall(r"^  (--[a-z]+)", out, re.M), [*forms, *command_table.OF_SCRIPT.get(name, []), "--wait"])
+    holds(f"{name}: its options", re.findall(r"^  (--[a-z-]+)", out, re.M), [*forms, *command_table.OF_SCRIPT.get(name, []), "--wait"])
     examples = re.findall(rf"^    (?:.* )?fallowtime \S+ {name}(?: .*)?$", out, re.M)
     holds(f"{name}: its examples", len(examples), {"find": 4, "update": 3}.get(name, 2))
     for example in examples:
@@ -226,7 +226,7 @@ if PROGRAM:
     holds("version", run(PROGRAM, "version"), (0, f"fallowtime {(ROOT / 'VERSION').read_text()}", ""))
     named = re.findall(r"[A-Z]\w+", every.split(":", 1)[1].split(" fallowtime ")[0].replace("FILE", ""))
     holds("every command: refusals that aren't explained", [kind for kind in named if kind not in kinds], [])
-    holds("the columns of the help", [line for text in section.values() for line in text.split("\n") if len(line) > 85], [])
+    holds("the columns of the help", [line for text in section.values() for line in text.split("\n") if len(line) > 90], [])
 
 # Each kind of refusal is explained, in the words of the page, and each kind that the page names.
 page = re.sub(r"\[([^\][]*)\]\([^)]*\)", r"\1", (ROOT / "docs/ERRORS.md").read_text())
@@ -311,7 +311,7 @@ for words, hint in [
     (["t.db", "version"], "the words are fallowtime version"),
     (["t.db", "index", "c", "a"], "the words are a line of fallowtime FILE: index COLL PATH"),
     (["t.db", "get", "c"], "the words are fallowtime FILE get COLL ID [--canonical | --bson] [--wait SECONDS]"),
-    (["t.db", "import", "c", "--canonical"], "the words are fallowtime FILE import COLL [INPUT] [--json] [--wait SECONDS]"),
+    (["t.db", "import", "c", "--canonical"], "the words are fallowtime FILE import COLL [INPUT] [--json] [--upsert] [--skip-existing] [--wait SECONDS]"),
     (["insert", "orders", "{}"], "FILE comes first: fallowtime FILE insert COLL DOC [--canonical] [--wait SECONDS]"),
     (["-t.db", "collections"], "a FILE that begins with - is written ./-x.db; "),
     (["--versoin"], "a FILE that begins with - is written ./-x.db; --help, --version and "),
@@ -475,11 +475,11 @@ for words in ["t.db", "find", "c"], ["t.db", "backup", "b.db"], ["t.db", "get", 
 man = (ROOT / "man/fallowtime.1").read_text()
 shown = []
 for name, words in re.findall(r"^\.It Ic ([\w-]+)(.*)$", man, re.M):
-    forms = re.findall(r"Fl (-[a-z]+)", words)
+    forms = re.findall(r"Fl (-[a-z-]+)", words)
     places = re.sub(r"Oo Ar (\w+) Oc|Op Ar (\w+)$", lambda found: f"Ar [{found[1] or found[2]}]", re.split(" O[op] Fl", words)[0])
     shown.append((name, (" ".join(re.findall(r"[A-Z\[\]]{2,}", places)), [f"-{form}" for form in forms])))
 holds("the commands of the page", shown, [(name, (places, forms + command_table.OF_SCRIPT.get(name, []))) for name, (places, forms) in ALL.items()])
-holds("the options of the page", sorted(re.findall(r"^\.It Fl -([a-z]+)", man, re.M)), ["after", "bson", "canonical", "explain", "fields", "help", "json", "limit", "many", "pretty", "skip", "sort", "upsert", "version", "wait", "without"])
+holds("the options of the page", sorted(re.findall(r"^\.It Fl -([a-z-]+)", man, re.M)), ["after", "batch", "bson", "canonical", "drop", "explain", "fields", "help", "json", "limit", "many", "pretty", "skip", "skip-existing", "sort", "upsert", "version", "wait", "without"])
 for tool, words in ("mandoc", ["-T", "lint", "-W", "warning"]), ("groff", ["-mdoc", "-Tutf8", "-z", "-ww"]):
     if shutil.which(tool):
         done = subprocess.run([tool, *words, ROOT / "man/fallowtime.1"], capture_output=True, text=True)
@@ -518,14 +518,14 @@ for line, wanted in [
     (["shop.db", "edit", "m"], ["more"]),
     (["shop.db", "edit", "more", "1", ""], ["--wait"]),
     (["shop.db", "import", "more", "sh"], ["shop.db"]),
-    (["shop.db", "import", "more", "shop.db", ""], ["--json", "--wait"]),
+    (["shop.db", "import", "more", "shop.db", ""], ["--json", "--upsert", "--skip-existing", "--batch", "--wait"]),
     (["shop.db", "import-all", "sh"], ["shop.db"]),
     (["shop.db", "find", "more", "--bson", "--s"], ["--sort", "--skip"]),
     (["shop.db", "find", "more", "--sort", "price", "--s"], ["--skip"]),
     (["shop.db", "find", "more", "--sort", ""], [""]),
     (["shop.db", "insert", "more", "{}", "--"], ["--canonical", "--wait"]),
     (["shop.db", "insert", "more", "--"], [""]),
-    (["shop.db", "import", "more", "--"], ["--json", "--wait"]),
+    (["shop.db", "import", "more", "--"], ["--json", "--upsert", "--skip-existing", "--batch", "--wait"]),
     (["shop.db", "set", "more", "1", "k", "v", ""], ["--key", "--wait"]),
     (["shop.db", "collections", ""], ["--wait"]),
     (["shop.db", "collections", "--wait", ""], [""]),

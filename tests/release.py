@@ -224,7 +224,7 @@ for words, wanted in [
     (["shop.db", "get", ""], ["old orders", "orders"]), (["shop.db", "get", "or"], ["orders"]), (["none.db", "get", ""], []),
     (["shop.db", "get", "orders", ""], []), (["shop.db", "get", "orders", "1", ""], ["--bson", "--canonical", "--pretty", "--wait"]),
     (["shop.db", "get", "orders", "1", "--bson", "--"], ["--canonical", "--pretty", "--wait"]), (["shop.db", "edit", "or"], ["orders"]),
-    (["shop.db", "import-all", "shop.db"], ["shop.db", "shop.db-wal"]), (["shop.db", "import", "orders", "shop.db"], ["shop.db", "shop.db-wal"]), (["shop.db", "import", "orders", "--"], ["--json", "--wait"]), (["shop.db", "find", "orders", "--w"], ["--wait", "--without"]),
+    (["shop.db", "import-all", "shop.db"], ["shop.db", "shop.db-wal"]), (["shop.db", "import", "orders", "shop.db"], ["shop.db", "shop.db-wal"]), (["shop.db", "import", "orders", "--"], ["--batch", "--json", "--skip-existing", "--upsert", "--wait"]), (["shop.db", "find", "orders", "--w"], ["--wait", "--without"]),
     (["shop.db", "find", "orders", "{}", "--wait", ""], []), (["shop.db", "find", "orders", "{}", "--sort", ""], []), (["shop.db", "backup", "shop.db"], ["shop.db", "shop.db-wal"]),
     (["shop.db", "collections", ""], ["--wait"]), (["shop.db", "insert", "orders", "--"], []), (["shop.db", "find", "orders", "--s"], ["--skip", "--sort"]),
 ]:
