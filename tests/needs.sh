@@ -15,6 +15,7 @@ jq command -v jq
 strace command -v strace
 python3-pymongo /usr/bin/python3 -c 'import bson.json_util'
 python3-mongomock /usr/bin/python3 -c 'import mongomock'
+python3-mongoengine /usr/bin/python3 -c 'import mongoengine'
 python3-apscheduler /usr/bin/python3 -c 'import apscheduler.jobstores.mongodb'
 python3-requests-cache /usr/bin/python3 -c 'import requests_cache.backends.mongodb'
 golang-mongodb-mongo-driver-dev test -d /usr/share/gocode/src/go.mongodb.org/mongo-driver/data/crud

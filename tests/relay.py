@@ -7,8 +7,8 @@ theirs, connections that hang, kills, sockets, limits and rates.
 PROGRAM is fallowtime, under whatever name. If it doesn't answer messages yet (`fallowtime FILE --messages`), one line says so, and
 tests/drivers/stand_in.py is in its place, which shows nothing of the program. A STEP is the name of a function below; behind `hostile`
 may stand the number of messages, as hostile=100000, and behind `rates` that the clock counts, as rates=clock. Prints a line a step, and
-ends with status 1 at the first that isn't as it should be. Wants python3-pymongo, and for the drivers gcc, pkg-config, libmongoc-dev,
-node and node-mongodb.
+ends with status 1 at the first that isn't as it should be. Wants python3-pymongo, python3-mongoengine, and for the drivers gcc,
+pkg-config, libmongoc-dev, node and node-mongodb.
 """
 import atexit
 import contextlib
@@ -722,6 +722,17 @@ class Clients:
             process.stdout.close()
 
 
+def models(program, folder):
+    """mongoengine, as it is, over the relay: the documents of a class are kept, found, changed and removed. In a process of its own, as
+    it keeps its connections."""
+    relay = Relay(program, store(folder))
+    done = subprocess.run([sys.executable, "-B", ROOT / "tests/drivers/models.py", relay.address], capture_output=True, text=True, timeout=LONG)
+    if done.returncode:
+        fail(f"models: {done.stdout[-500:]} {done.stderr[-1500:]}")
+    holds("the end", relay.end(), 0)
+    print(f"models: {done.stdout.strip()}")
+
+
 def rates(program, folder, by=""):
     """A find by _id takes at most six times the processor that it takes over a server that answers with a constant, that of the client
     and of what answers it or passes it on: between 1.4 and 2.3 were measured, by what else the machine does. `rates=clock` also holds
@@ -759,7 +770,7 @@ def rates(program, folder, by=""):
     print(f"rates: {told}")
 
 
-STEPS = [drivers, writes, batches, collections, transfers, hostile, hanging, names, limits, room, faults, kills, lost_clients, stops, sockets, addresses, systemd, rates]
+STEPS = [drivers, writes, batches, collections, transfers, models, hostile, hanging, names, limits, room, faults, kills, lost_clients, stops, sockets, addresses, systemd, rates]
 
 
 def main():
