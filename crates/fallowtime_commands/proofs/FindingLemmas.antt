@@ -18,7 +18,7 @@ use Rattle.bson_store.specs.declared.edit.Edit.TheVariants as edits
 use Rattle.store_asked.proofs.AskLemmas.{answered_as, refused_as}
 use Rattle.store_asked.specs.Arranged.{AreArranged}
 use Rattle.store_asked.specs.Asking.{AnsweredFrom, AskedFrom}
-use Rattle.store_asked.specs.Keeps.{Keeps}
+use Rattle.store_question.specs.Keeps.{Keeps}
 use Rattle.store_fields.specs.Views.{left_of}
 use Rattle.store_fields.specs.declared.fields.Fields.{Fields}
 use Rattle.store_model.specs.Reading.{Documents}

@@ -8,7 +8,7 @@ use Rattle.std.specs.Str.{bytes_eq}
 use Rattle.sqlite.specs.State.{State}
 use Rattle.bson_base.proofs.MemberLemmas.{same_key}
 use Rattle.store_asked.specs.Asking.{AnsweredFrom, AskedFrom}
-use Rattle.store_asked.specs.Keeps.{Keeps}
+use Rattle.store_question.specs.Keeps.{Keeps}
 use Rattle.store_model.proofs.KeyLemmas.{rows_are_a_state}
 use Rattle.store_model.proofs.RowLemmas.{list_of-state_of}
 use Rattle.store_model.proofs.UnmovedLemmas.{unmoved}

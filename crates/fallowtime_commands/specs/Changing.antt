@@ -13,7 +13,7 @@ use Rattle.store_model.specs.declared.error.ErrorKind.{ErrorKind}
 use Rattle.store_model.specs.declared.error.ErrorKind.TheVariants.{BadName, Memory}
 use Rattle.store_model.specs.declared.error.StoreError.{StoreError}
 use Rattle.store_table.specs.Rows.{TableRow}
-use Rattle.store_asked.specs.Keeps.{Keeps}
+use Rattle.store_question.specs.Keeps.{Keeps}
 use Rattle.store_question.specs.Asked.{Asked}
 use Rattle.store_question.specs.Reads.{Form, Reads}
 use Rattle.store_update.specs.Plan.{Plan}

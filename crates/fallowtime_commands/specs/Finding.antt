@@ -9,7 +9,7 @@ use Rattle.bson_store.specs.Whole.{DoesAll}
 use Rattle.bson_store.specs.declared.edit.Edit.{Edit}
 use Rattle.bson_store.specs.declared.edit.Edit.TheVariants.{ReplaceRaw}
 use Rattle.bson_store.specs.declared.edit.ListRefusal.{ListRefusal}
-use Rattle.store_asked.specs.Keeps.{Keeps}
+use Rattle.store_question.specs.Keeps.{Keeps}
 use Rattle.store_fields.specs.Views.{left_of}
 use Rattle.store_fields.specs.declared.fields.Fields.{Fields}
 use Rattle.store_model.specs.Reading.{Documents}

@@ -14,7 +14,7 @@ use fallowtime_requests::Part;
 use sqlite::Alter;
 use sqlite_pages::Pages;
 use std::alloc::Global;
-use store_asked::{ReadOnlyStore, SelectedRows, look_up_answers, take_answers};
+use store_asked::{ReadOnlyStore, look_up_answers, take_answers};
 use store_question::Question;
 
 /// How many documents of the collection `name` answer a question.
@@ -82,6 +82,6 @@ pub(crate) fn count_in_pages<P: Pages + Drop>(
     ensures stays { Stays P.Pages store.old store.new }
 {
     let taker = Count { number: 0 };
-    let count = look_up_answers(alloc, store, name, question, taker, SelectedRows::Untested)?;
+    let count = look_up_answers(alloc, store, name, question, taker)?;
     Ok(counted(part, count.number))
 }

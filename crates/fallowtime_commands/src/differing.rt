@@ -14,8 +14,9 @@ use bson_store::{Store, StoreError, Take};
 use sqlite::Alter;
 use sqlite_pages::Pages;
 use std::alloc::Global;
-use store_asked::{Choose, ReadOnlyStore, SelectedRows, look_up_answers, take_answers};
+use store_asked::{ReadOnlyStore, TakeRow, check_row, look_up_answers, take_answers};
 use store_distinct::{Counted, Distinct};
+use store_pages::RowRef;
 use store_question::Question;
 
 /// Counts the different values of the documents that it takes.
@@ -39,9 +40,15 @@ impl<'a> Take for Differing<'a> {
     }
 }
 
-impl<'a> Choose for Differing<'a> {
-    fn chooses(&self, _document: RawDocument<'_>) -> bool {
-        true
+impl<'a> TakeRow for Differing<'a> {
+    fn take_row(
+        &mut self,
+        alloc: Global,
+        row: &RowRef<'_>,
+        document: RawDocument<'_>,
+    ) -> Result<(), StoreError> {
+        check_row(alloc, row.coll, row.idkey, row.body)?;
+        self.take(document)
     }
 }
 
@@ -85,6 +92,6 @@ pub(crate) fn distinct_in_pages<P: Pages + Drop>(
     let taker = Differing {
         values: Distinct::new(alloc, path),
     };
-    let taken = look_up_answers(alloc, store, name, question, taker, SelectedRows::Tested)?;
+    let taken = look_up_answers(alloc, store, name, question, taker)?;
     Ok(taken.values.into_counted())
 }

@@ -12,7 +12,7 @@ use Rattle.store_model.specs.Filter.{Path, pairs, under_places}
 use Rattle.store_model.specs.Reading.{Documents}
 use Rattle.store_model.specs.State.{AreKept}
 use Rattle.store_question.specs.Asked.{Asked, Askeds, at, whole, exists, is_of, lies, has_size, leaves, begins, has_item, no, all_of, any_of, no_asked, asked, Along, Answers, AnswersAll, AnswersAny, AnyMember, AtEnd, AtMember, AtPlace, HasItem, HasSize, IntoDocument, Through, Under, begins_so, count, leaves_so, lies_to, text_in}
-use Rattle.store_asked.specs.Keeps.{Keeps}
+use Rattle.store_question.specs.Keeps.{Keeps}
 
 -- ---- one or the other
 

@@ -11,7 +11,8 @@ use Rattle.store_model.specs.Reading.{Documents}
 use Rattle.store_model.specs.State.{IsKept, Picks}
 use Rattle.store_question.specs.Asked.{Answers, Asked}
 use Rattle.store_question.specs.Reads.{Reads, form_of}
-use Rattle.store_asked.specs.Keeps.{Keeps, TookAnswers}
+use Rattle.store_asked.specs.Keeps.{TookAnswers}
+use Rattle.store_question.specs.Keeps.{Keeps}
 use Rattle.store_asked.specs.declared.answering.Answering.{Answering}
 
 keeps_more : (q : Asked) (ds out : Documents) (d : Members) → Answers q (Some (document d)) → Keeps q ds out → Keeps q (ds ++ d ∷ []) (out ++ d ∷ [])

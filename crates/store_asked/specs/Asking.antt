@@ -13,7 +13,7 @@ use Rattle.bson_store.specs.Refusals.{IsDenied}
 use Rattle.bson_store.specs.Shown.{Represents}
 use Rattle.bson_store.specs.Drafted.{IsOver, drafted}
 use Rattle.bson_store.specs.declared.draft.Draft.{Draft}
-use Rattle.store_asked.specs.Keeps.{Keeps}
+use Rattle.store_question.specs.Keeps.{Keeps}
 
 -- whatever table the rows show, what the question keeps of a collection was taken; the rows stay
 pub record Answered {T : Type 0} (took : T → Documents → Type 0) (n : List ℕ) (q : Asked) (result : Result T StoreError) (docs after : List TableRow) : Type 0 where

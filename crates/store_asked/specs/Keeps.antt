@@ -1,18 +1,12 @@
--- What a question keeps of documents, and what takers took.
-use Rattle.std.specs.Prelude.{◌≡◌, [], ◌∷◌, Some}
-use Rattle.bson_base.specs.Value.{document}
+-- What takers took.
+use Rattle.std.specs.Prelude.{◌≡◌}
 use Rattle.store_model.specs.Reading.{Documents}
-use Rattle.store_model.specs.State.{When}
-use Rattle.store_question.specs.Asked.{Answers, Asked}
+use Rattle.store_question.specs.Asked.{Asked}
+use Rattle.store_question.specs.Keeps.{Keeps}
 use Rattle.store_question.specs.Reads.{Reads, form_of}
 use Rattle.store_sorted.specs.Held.{Holds, top_keys, top_limit}
 use Rattle.store_sorted.specs.declared.first.TopN.{TopN}
 use Rattle.store_asked.specs.declared.answering.Answering.{Answering}
-
--- those of the documents that answer the question, in their order
-abbrev pub Keeps : Asked → Documents → Documents → Type 0
-Keeps q [] out = out ≡ []
-Keeps q (d ∷ ds) out = When (Answers q (Some (document d))) ((rest : Documents) × (out ≡ d ∷ rest) × Keeps q ds rest) (Keeps q ds out)
 
 -- the taker behind a question took what the question keeps of the documents
 abbrev pub TookAnswers : {T : Type 0} → (T → T → Documents → Type 0) → Answering T → Answering T → Documents → Type 0

@@ -1,8 +1,10 @@
 //! The documents that answer a question.
 
-use crate::selecting::Choose;
+use crate::selecting::TakeRow;
 use bson_raw::RawDocument;
 use bson_store::{StoreError, Take};
+use std::alloc::Global;
+use store_pages::RowRef;
 use store_question::{Question, answers};
 
 /// Hands on the documents that answer a question, and none of the others, to another taker.
@@ -29,8 +31,17 @@ impl<'a, T: Take> Take for Answering<'a, T> {
     }
 }
 
-impl<'a, T: Choose> Choose for Answering<'a, T> {
-    fn chooses(&self, document: RawDocument<'_>) -> bool {
-        answers(document, self.question) && self.taker.chooses(document)
+impl<'a, T: TakeRow> TakeRow for Answering<'a, T> {
+    fn take_row(
+        &mut self,
+        alloc: Global,
+        row: &RowRef<'_>,
+        document: RawDocument<'_>,
+    ) -> Result<(), StoreError> {
+        if !answers(document, self.question) {
+            return Ok(());
+        }
+        self.taker.take_row(alloc, row, document)?;
+        Ok(())
     }
 }

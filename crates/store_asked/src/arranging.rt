@@ -11,7 +11,6 @@ ghost use Rattle.store_table.specs.Moves.{WasOpen};
 use crate::asking::{look_up_answers, take_answers};
 use crate::drafted::take_drafted;
 use crate::gathering::Gathering;
-use crate::selecting::SelectedRows;
 use crate::store::ReadOnlyStore;
 use bson_store::{DraftedEdits, Store, StoreError};
 use sqlite::Alter;
@@ -86,14 +85,8 @@ pub fn look_up_arranged<P: Pages + Drop>(
     ensures stays { Stays P.Pages store.old store.new }
 {
     let gathering = Gathering::new(alloc, arrangement);
-    let gathered = look_up_answers(
-        alloc,
-        store,
-        name,
-        question,
-        gathering,
-        SelectedRows::Tested,
-    )?;
+    let gathered = look_up_answers(alloc, store, name, question, gathering)?;
+    gathered.check_rows(name)?;
     let bodies = gathered.into_bodies()?;
     Ok(bodies)
 }

@@ -10,7 +10,7 @@ ghost use Rattle.store_table.specs.Moves.{WasOpen};
 
 use crate::answering::Answering;
 use crate::front::{filter_in_front, ranges_in_front};
-use crate::selecting::{Choose, SelectedRows};
+use crate::selecting::TakeRow;
 use crate::store::ReadOnlyStore;
 use bson_store::{Store, StoreError, Take, select_all};
 use sqlite::Alter;
@@ -52,15 +52,14 @@ pub fn take_answers<S: Alter + Drop, T: Take + Drop>(
 
 /// The same of a store that only reads.
 ///
-/// Refused also if what is looked at isn't framed as a document, and by Database, if rows are tested, if no store can have
-/// written the row of a document that answers.
-pub fn look_up_answers<P: Pages + Drop, T: Choose + Drop>(
+/// Refused also if what is looked at isn't framed as a document, and by Database, if the taker tests the row of a document
+/// that answers and no store can have written it.
+pub fn look_up_answers<P: Pages + Drop, T: TakeRow + Drop>(
     alloc: Global,
     store: &mut ReadOnlyStore<P>,
     name: &str,
     question: &Question,
     taker: T,
-    test: SelectedRows,
 ) -> Result<T, StoreError>
     requires { T.took taker taker [] }
     ensures reads { ReadsPages P.Pages store.old store.new
@@ -69,6 +68,6 @@ pub fn look_up_answers<P: Pages + Drop, T: Choose + Drop>(
 {
     let everything = select_all(alloc);
     let answering = Answering { question, taker };
-    let taken = store.take_selected(name, &everything, answering, test)?;
+    let taken = store.take_selected(name, &everything, answering)?;
     Ok(taken.taker)
 }

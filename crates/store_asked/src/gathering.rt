@@ -7,10 +7,12 @@ ghost use Rattle.store_sorted.specs.Bodies.{AreBodies, OfBody};
 ghost use Rattle.store_asked.specs.Arranged.{AreArranged};
 
 use crate::first::First;
-use crate::selecting::Choose;
+use crate::refusing::check_row;
+use crate::selecting::TakeRow;
 use bson_raw::RawDocument;
 use bson_store::{StoreError, Take};
 use std::alloc::{AllocError, Global};
+use store_pages::RowRef;
 use store_sorted::{Arrangement, TopN, into_window, sort, window};
 
 /// Puts a copy of a body last.
@@ -42,6 +44,18 @@ impl Take for Whole {
 
     fn is_done(&self) -> bool {
         false
+    }
+}
+
+impl TakeRow for Whole {
+    fn take_row(
+        &mut self,
+        alloc: Global,
+        row: &RowRef<'_>,
+        document: RawDocument<'_>,
+    ) -> Result<(), StoreError> {
+        check_row(alloc, row.coll, row.idkey, row.body)?;
+        self.take(document)
     }
 }
 
@@ -82,11 +96,16 @@ impl<'a> Take for Gathering<'a> {
     }
 }
 
-impl<'a> Choose for Gathering<'a> {
-    fn chooses(&self, document: RawDocument<'_>) -> bool {
-        match &self.held {
-            Held::First(first) => first.chooses(document),
-            Held::All(_) => true,
+impl<'a> TakeRow for Gathering<'a> {
+    fn take_row(
+        &mut self,
+        alloc: Global,
+        row: &RowRef<'_>,
+        document: RawDocument<'_>,
+    ) -> Result<(), StoreError> {
+        match &mut self.held {
+            Held::First(first) => first.take_row(alloc, row, document),
+            Held::All(whole) => whole.take_row(alloc, row, document),
         }
     }
 }
@@ -127,7 +146,8 @@ fn part_of(
 }
 
 impl<'a> Gathering<'a> {
-    ghost use Rattle.std.specs.Prelude.{◌≡◌, [], IfOk};
+    ghost use Rattle.std.specs.Prelude.{◌≡◌, [], IfErr, IfOk};
+    ghost use Rattle.bson_store.specs.Refusals.{IsDenied};
     ghost use Rattle.store_model.specs.Reading.{Documents};
     ghost use Rattle.store_asked.specs.Arranged.{AreArranged, Gathers, arrangement_of};
 
@@ -139,6 +159,7 @@ impl<'a> Gathering<'a> {
         let held = match last_of(arrangement) {
             Some(limit) => Held::First(First {
                 top: TopN::new(alloc, arrangement.keys.as_slice(), limit),
+                keys: Vec::new(alloc),
             }),
             None => Held::All(Whole {
                 bodies: Vec::new(alloc),
@@ -149,6 +170,17 @@ impl<'a> Gathering<'a> {
             arrangement,
             held,
             alloc,
+        }
+    }
+
+    /// Tests the rows, which are of the collection `name`, that weren't tested as they came: refused by Database, if no
+    /// store can have written one of them.
+    pub fn check_rows(&self, name: &str) -> Result<(), StoreError>
+        ensures { IfErr result IsDenied }
+    {
+        match &self.held {
+            Held::First(first) => first.check_rows(self.alloc, name),
+            Held::All(_) => Ok(()),
         }
     }
 

@@ -7,7 +7,7 @@ ghost use Rattle.store_model.specs.Filter.{Filter, Selects};
 ghost use Rattle.store_model.specs.Reading.{Documents};
 ghost use Rattle.store_model.specs.State.{Picks};
 ghost use Rattle.store_question.specs.Asked.{Answers, Asked};
-ghost use Rattle.store_asked.specs.Keeps.{Keeps};
+ghost use Rattle.store_question.specs.Keeps.{Keeps};
 
 /// If a filter selects each of some documents that answers a question, the question keeps of what the filter selects of
 /// them what it keeps of all.

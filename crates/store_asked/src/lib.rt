@@ -24,5 +24,6 @@ pub use drafted::take_drafted;
 pub use first::First;
 pub use gathering::Gathering;
 pub use opening::open_files;
-pub use selecting::{Choose, SelectedRows};
+pub use refusing::check_row;
+pub use selecting::TakeRow;
 pub use store::ReadOnlyStore;

@@ -31,8 +31,9 @@ pub(crate) fn refusal_of_error(error: Error) -> StoreError
     })
 }
 
-/// Refuses a row that is to be handed out: by Database, if no store can have written it.
-pub(crate) fn check_row(
+/// Refuses a row that is to be handed out, which is of a collection, under a key, and has a body: by Database, if no store
+/// can have written it; by Memory, if a growth was refused.
+pub fn check_row(
     alloc: Global,
     collection: &[u8],
     key: &[u8],

@@ -1,6 +1,6 @@
 //! What a filter selects of a collection, handed on while the rows come.
 
-ghost use Rattle.std.specs.Prelude.{◌≡◌, ◌++◌, ◌∷◌, [], IfErr, IsTrue, OnOk};
+ghost use Rattle.std.specs.Prelude.{◌≡◌, ◌++◌, ◌∷◌, [], IfErr, OnOk};
 ghost use Rattle.bson_base.specs.Value.{Members};
 ghost use Rattle.bson_bytes.specs.Encode.{encode};
 ghost use Rattle.bson_raw.specs.View.{bytes_of as view_bytes};
@@ -18,43 +18,53 @@ use store_filter::Filter;
 use store_model::StoreError;
 use store_pages::{RowRef, VisitRows};
 
-/// Whether a row whose document is taken is tested before that.
-#[derive(Clone, Copy, Drop)]
-pub enum SelectedRows {
-    /// A row that no store can have written is refused by Database: for what is handed out.
-    Tested,
-    /// It isn't looked at: for what is only counted.
-    Untested,
+/// A taker of documents whose rows come with them. It tests the row of each document that it hands out: as the document
+/// comes, or at its end, if only some of those that came are handed out. What is only counted has rows that aren't
+/// tested.
+pub trait TakeRow: Take {
+    /// Takes the document of a row, as `take` does. A row that is tested, and that no store can have written, is refused
+    /// by Database.
+    fn take_row(
+        &mut self,
+        alloc: Global,
+        row: &RowRef<'_>,
+        document: RawDocument<'_>,
+    ) -> Result<(), StoreError>
+        ensures took { (first : Self) (out : Documents) (d : Members) → IsKept d
+            → view_bytes document.entry ≡ encode d → Self.took first self.old out
+            → OnOk result (Self.took first self.new (out ++ d ∷ [])) }
+        ensures denied { IfErr result IsDenied };
 }
 
-/// A taker that knows beforehand which documents it would only pass over, so that their rows needn't be tested.
-pub trait Choose: Take {
-    /// Whether it takes a document. One that it doesn't choose leaves it as it is.
-    fn chooses(&self, document: RawDocument<'_>) -> bool
-        ensures passes { (first : Self) (out : Documents) (d : Members) → IsKept d
-            → view_bytes document.entry ≡ encode d → Self.took first self.now out
-            → (IsTrue result → ⊥) → Self.took first self.now (out ++ d ∷ []) };
-}
-
-impl Choose for Copies {
-    fn chooses(&self, _document: RawDocument<'_>) -> bool {
-        true
+impl TakeRow for Copies {
+    fn take_row(
+        &mut self,
+        alloc: Global,
+        row: &RowRef<'_>,
+        document: RawDocument<'_>,
+    ) -> Result<(), StoreError> {
+        check_row(alloc, row.coll, row.idkey, row.body)?;
+        self.take(document)
     }
 }
 
-impl Choose for Count {
-    fn chooses(&self, _document: RawDocument<'_>) -> bool {
-        true
+impl TakeRow for Count {
+    fn take_row(
+        &mut self,
+        _alloc: Global,
+        _row: &RowRef<'_>,
+        document: RawDocument<'_>,
+    ) -> Result<(), StoreError> {
+        self.take(document)
     }
 }
 
 /// Hands on the document of a row, if the filter selects it. A body that isn't framed as a document is refused by
 /// Database.
-fn take_row<T: Choose>(
+fn hand_on<T: TakeRow>(
     alloc: Global,
     taker: &mut T,
     filter: &Filter,
-    test: SelectedRows,
     row: &RowRef<'_>,
 ) -> Result<(), StoreError>
     ensures picked { (first : T) (out : Documents) (d : Members) → IsKept d → row.now.body.now ≡ encode d
@@ -63,13 +73,7 @@ fn take_row<T: Choose>(
     ensures denied { (d : Members) → IsKept d → row.now.body.now ≡ encode d → IfErr result IsDenied }
 {
     if let Some(document) = selected(filter, row.body)? {
-        if let SelectedRows::Tested = test {
-            if !taker.chooses(document) {
-                return Ok(());
-            }
-            check_row(alloc, row.coll, row.idkey, row.body)?;
-        }
-        taker.take(document)?;
+        taker.take_row(alloc, row, document)?;
     }
     Ok(())
 }
@@ -79,12 +83,11 @@ fn take_row<T: Choose>(
 pub struct SelectVisitor<'a, T> {
     pub filter: &'a Filter,
     pub taker: T,
-    pub test: SelectedRows,
     pub alloc: Global,
     pub fault: Option<StoreError>,
 }
 
-impl<'a, T: Choose> VisitRows for SelectVisitor<'a, T> {
+impl<'a, T: TakeRow> VisitRows for SelectVisitor<'a, T> {
     ghost use Rattle.std.specs.Prelude.{◌≡◌, ◌≢◌, ◌⊎◌, None, map};
     ghost use Rattle.store_pages.specs.Documents.{Doc};
     ghost use Rattle.store_filter.specs.Filters.{filter_of};
@@ -97,7 +100,7 @@ impl<'a, T: Choose> VisitRows for SelectVisitor<'a, T> {
     ghost is_done = { λ v. (v.fault ≢ None) ⊎ ((first : T) → IsSettled (T.took first v.taker)) };
 
     fn visit(&mut self, _place: i64, row: &RowRef<'_>) -> bool {
-        match take_row(self.alloc, &mut self.taker, self.filter, self.test, row) {
+        match hand_on(self.alloc, &mut self.taker, self.filter, row) {
             Ok(()) => !self.taker.is_done(),
             Err(error) => {
                 self.fault = Some(error);

@@ -15,7 +15,7 @@ ghost use Rattle.store_asked.specs.Reads.{FindsBody, Reads, Stays, pages_under};
 use crate::joining::Joined;
 use crate::names::texts_of;
 use crate::refusing::{check_row, refusal_of, refusal_of_error};
-use crate::selecting::{Choose, SelectVisitor, SelectedRows};
+use crate::selecting::{SelectVisitor, TakeRow};
 use bson_meaning::KeyError;
 use bson_model::Bson;
 use bson_store::{Copies, Count};
@@ -109,12 +109,11 @@ impl<P: Pages + Drop> ReadOnlyStore<P> {
     }
 
     /// What is kept of the documents of a collection that a filter selects.
-    fn pick<T: Choose + Drop>(
+    fn pick<T: TakeRow + Drop>(
         &mut self,
         name: Name<'_>,
         filter: &Filter,
         taker: T,
-        test: SelectedRows,
     ) -> Result<T, StoreError>
         requires { T.took taker taker [] }
         ensures reads { Reads P.Pages self.old self.new
@@ -124,7 +123,6 @@ impl<P: Pages + Drop> ReadOnlyStore<P> {
         let mut visitor = SelectVisitor {
             filter,
             taker,
-            test,
             alloc: self.alloc,
             fault: None,
         };
@@ -143,7 +141,6 @@ impl<P: Pages + Drop> ReadOnlyStore<P> {
         let SelectVisitor {
             filter: _,
             taker,
-            test: _,
             alloc: _,
             fault,
         } = visitor;
@@ -157,14 +154,12 @@ impl<P: Pages + Drop> ReadOnlyStore<P> {
     /// it back.
     ///
     /// Refused by BadName, Memory and Database, and as the taker refuses a document: also if what is looked at isn't framed
-    /// as a document, and by Database, if rows are tested, if no store can have written the row of a document that the
-    /// taker chooses.
-    pub fn take_selected<T: Choose + Drop>(
+    /// as a document, and by Database, if the taker tests the row of a document and no store can have written it.
+    pub fn take_selected<T: TakeRow + Drop>(
         &mut self,
         name: &str,
         filter: &Filter,
         taker: T,
-        test: SelectedRows,
     ) -> Result<T, StoreError>
         requires { T.took taker taker [] }
         ensures reads { Reads P.Pages self.old self.new
@@ -172,7 +167,7 @@ impl<P: Pages + Drop> ReadOnlyStore<P> {
         ensures stays { Stays P.Pages self.old self.new }
     {
         let name = good_name(name)?;
-        self.pick(name, filter, taker, test)
+        self.pick(name, filter, taker)
     }
 
     /// The written form of the document of the collection `name` whose `_id` means the same as `id`.
@@ -203,7 +198,7 @@ impl<P: Pages + Drop> ReadOnlyStore<P> {
         let name = good_name(name)?;
         let bodies = Vec::new(self.alloc);
         let alloc = self.alloc;
-        let copies = self.pick(name, filter, Copies { bodies, alloc }, SelectedRows::Tested)?;
+        let copies = self.pick(name, filter, Copies { bodies, alloc })?;
         Ok(copies.bodies)
     }
 
@@ -216,7 +211,7 @@ impl<P: Pages + Drop> ReadOnlyStore<P> {
         ensures stays { Stays P.Pages self.old self.new }
     {
         let name = good_name(name)?;
-        let count = self.pick(name, filter, Count { number: 0 }, SelectedRows::Untested)?;
+        let count = self.pick(name, filter, Count { number: 0 })?;
         Ok(count.number)
     }
 

@@ -8,7 +8,7 @@ use Rattle.std.specs.List.Sorted.{IsSortedBy}
 use Rattle.bson_base.specs.Value.{Members, no_members}
 use Rattle.store_sorted.proofs.KeyLemmas.{weak}
 use Rattle.store_sorted.proofs.PlaceLemmas.{above, zip_at, zip_long}
-use Rattle.store_sorted.specs.Bodies.{AreBodies, GoesLast, IsBody, IsPlaceFor, OfBody}
+use Rattle.store_sorted.specs.Bodies.{AreBodies, GoesFirst, GoesLast, IsBody, IsPlaceFor, OfBody}
 use Rattle.store_sorted.specs.Order.{goes_before, Key}
 
 same_inside : (es : List Members) (i : ℕ) (x y : Members) → i < length es → get_or es i x ≡ get_or es i y
@@ -23,6 +23,10 @@ refused false e = refl
 pub last_inside : (b : Bool) (n : ℕ) → b ≡ (n == 0) → b ≡ false → n - 1 < n
 last_inside b zero e f = absurd (true≢false (sym e ∙ f))
 last_inside b (suc n) e f = omega arith
+
+pub first_inside : (b : Bool) (n : ℕ) → b ≡ (n == 0) → b ≡ false → 0 < n
+first_inside b zero e f = absurd (true≢false (sym e ∙ f))
+first_inside b (suc n) e f = omega arith
 
 module _ (ks : List Key) (d : Members) (es : List Members) (up : IsSortedBy (goes_before ks) es) (middle : ℕ) (inside : middle < length es) where
   upto : goes_before ks d (get_or es middle no_members) ≡ false → AllWithin (λ e. goes_before ks d e ≡ false) es 0 (middle + 1)
@@ -69,6 +73,17 @@ module _ (ks : List Key) (bodies : List (Vec ℕ Global)) (body : List ℕ) wher
         let l = long es are in
         let where' : length es - 1 ≡ middle = omega (arith, l, m) in
         ap (λ n. goes_before ks d (get_or es n e)) where' ∙ ap (goes_before ks d) (same_inside es middle e no_members (omega (arith, l, inside))) ∙ sym (compared es are d is) ∙ t
+
+    pub first_told : middle ≡ 0 → r ≡ true → (es : List Members) → AreBodies bodies es → OfBody body (λ d. GoesFirst ks d es)
+    first_told m t es are d is e a =
+        let l = long es are in
+        ap (λ n. goes_before ks d (get_or es n e)) (sym m) ∙ ap (goes_before ks d) (same_inside es middle e no_members (omega (arith, l, inside))) ∙ sym (compared es are d is) ∙ t
+
+  -- it goes before all
+  pub placed_first : (at : ℕ) → at ≡ 0 → ((es : List Members) → AreBodies bodies es → OfBody body (λ d. GoesFirst ks d es))
+      → (es : List Members) → AreBodies bodies es → IsSortedBy (goes_before ks) es → OfBody body (λ d. IsPlaceFor ks d es at)
+  placed_first at h goes es are up d is =
+      (λ k e a b. absurd (omega (arith, h, b)), λ k e a b. from_there ks d es up 0 (omega (arith, b)) (goes es are d is no_members (omega (arith, b))) k e (omega arith) b)
 
   -- it goes behind all
   pub placed_last : (at : ℕ) → at ≡ length bodies → ((es : List Members) → AreBodies bodies es → OfBody body (λ d. GoesLast ks d es))

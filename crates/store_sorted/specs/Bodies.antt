@@ -50,3 +50,7 @@ IsPlaceFor ks d es place = IsPartitionPoint (λ e. goes_before ks d e ≡ false)
 -- d doesn't go before the last one, if there is any
 abbrev pub GoesLast : List Key → Members → List Members → Type 0
 GoesLast ks d es = (e : Members) → 0 < length es → goes_before ks d (slice_index_or es (length es - 1) e) ≡ false
+
+-- d goes before the first one, if there is any
+abbrev pub GoesFirst : List Key → Members → List Members → Type 0
+GoesFirst ks d es = (e : Members) → 0 < length es → goes_before ks d (slice_index_or es 0 e) ≡ true

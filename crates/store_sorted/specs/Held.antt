@@ -1,5 +1,6 @@
 -- What is held of a sorted list.
-use Rattle.std.specs.Prelude.{ℕ, List, Vec, take}
+use Rattle.std.specs.Prelude.{◌≡◌, ◌-◌, ℕ, List, Option, Some, None, Vec, take}
+use Rattle.std.specs.List.{insert}
 use Rattle.std.specs.declared.alloc.Global.{Global}
 use Rattle.store_sorted.specs.Bodies.{AreBodies, keys_of}
 use Rattle.bson_base.specs.Value.{Members}
@@ -25,3 +26,8 @@ top_bodies t = t.bodies.items
 -- what is held are the first of ds
 abbrev pub Holds : TopN → List Members → Type 0
 Holds t ds = HoldsFirst (top_keys t) (top_limit t) ds (top_bodies t)
+
+-- a body was put at the place, behind which the last one goes if as many were held as are wanted; or all stay
+abbrev pub PutsAt : TopN → List ℕ → Option ℕ → TopN → Type 0
+PutsAt old bytes None new = top_bodies new ≡ top_bodies old
+PutsAt old bytes (Some place) new = (copy : Vec ℕ Global) × (copy.items ≡ bytes) × (top_bodies new ≡ insert (take (top_limit old - 1) (top_bodies old)) place copy)

@@ -19,9 +19,9 @@ pub struct TopN<'a> {
 }
 
 impl<'a> TopN<'a> {
-    ghost use Rattle.std.specs.Prelude.{◌≡◌, ◌∷◌, [], ◌++◌, length, IsTrue, List, OnOk};
+    ghost use Rattle.std.specs.Prelude.{◌≡◌, ◌∷◌, [], ◌++◌, length, IfOk, IsTrue, List, OnOk};
     ghost use Rattle.store_sorted.specs.Bodies.{keys_of, OfBody};
-    ghost use Rattle.store_sorted.specs.Held.{Holds, top_bodies, top_keys, top_limit};
+    ghost use Rattle.store_sorted.specs.Held.{Holds, PutsAt, top_bodies, top_keys, top_limit};
     ghost use Rattle.bson_base.specs.Value.{Members};
     ghost use Rattle.bson_raw.specs.View.{bytes_of};
 
@@ -39,19 +39,13 @@ impl<'a> TopN<'a> {
         }
     }
 
-    /// Whether a document is held once it is taken. One that isn't leaves all as it is.
-    pub fn would_hold(&self, document: RawDocument<'_>) -> bool
-        ensures { (ds : List Members) → Holds self.now ds → OfBody (bytes_of document.entry)
-            (λ d. (IsTrue result → ⊥) → Holds self.now (ds ++ d ∷ [])) }
-    {
-        place_for(self.bodies.as_slice(), document.as_bytes(), self.keys) < self.limit
-    }
-
-    /// Takes a document, which is held if it is among the first. Those that no key tells apart stay in the order in
-    /// which they were taken. The error is a refused growth; what is held then may lack its last one.
-    pub fn take(&mut self, document: RawDocument<'_>) -> Result<(), AllocError>
+    /// Takes a document, which is held if it is among the first, and returns its place among those that are held then.
+    /// Those that no key tells apart stay in the order in which they were taken. The error is a refused growth; what is
+    /// held then may lack its last one.
+    pub fn take(&mut self, document: RawDocument<'_>) -> Result<Option<usize>, AllocError>
         ensures holds { (ds : List Members) → Holds self.old ds → OfBody (bytes_of document.entry)
             (λ d. OnOk result (Holds self.new (ds ++ d ∷ []))) }
+        ensures place { IfOk result (λ place. PutsAt self.old (bytes_of document.entry) place self.new) }
         ensures keys { top_keys self.new ≡ top_keys self.old }
         ensures limit { top_limit self.new ≡ top_limit self.old }
     {
@@ -59,20 +53,21 @@ impl<'a> TopN<'a> {
     }
 
     /// Takes the document of a body.
-    fn take_body(&mut self, body: &[u8]) -> Result<(), AllocError>
+    fn take_body(&mut self, body: &[u8]) -> Result<Option<usize>, AllocError>
         ensures holds { (ds : List Members) → Holds self.old ds → OfBody body.now
             (λ d. OnOk result (Holds self.new (ds ++ d ∷ []))) }
+        ensures place { IfOk result (λ place. PutsAt self.old body.now place self.new) }
         ensures keys { top_keys self.new ≡ top_keys self.old }
         ensures limit { top_limit self.new ≡ top_limit self.old }
     {
         let place = place_for(self.bodies.as_slice(), body, self.keys);
         if place >= self.limit {
-            return Ok(());
+            return Ok(None);
         }
         self.bodies.truncate(self.limit - 1);
         let copy = Vec::from_slice(self.alloc, body)?;
         self.bodies.insert(place, copy)?;
-        Ok(())
+        Ok(Some(place))
     }
 
     /// Whether no document that may come is held: none goes before another without keys, so the first to come are all.

@@ -2,7 +2,7 @@
 
 ghost use Rattle.std.specs.Prelude.{◌≡◌, ◌≤◌, length, List, IsTrue};
 ghost use Rattle.std.specs.List.Sorted.{IsSortedBy};
-ghost use Rattle.store_sorted.specs.Bodies.{AreBodies, GoesLast, IsPlaceFor, keys_of, OfBody};
+ghost use Rattle.store_sorted.specs.Bodies.{AreBodies, GoesFirst, GoesLast, IsPlaceFor, keys_of, OfBody};
 ghost use Rattle.bson_base.specs.Value.{Members};
 ghost use Rattle.store_sorted.specs.Order.{goes_before};
 
@@ -17,6 +17,9 @@ pub(crate) fn place_for(bodies: &[Vec<u8>], body: &[u8], keys: &[SortKey]) -> us
 {
     if goes_last(bodies, body, keys) {
         return bodies.len();
+    }
+    if goes_first(bodies, body, keys) {
+        return 0;
     }
     let mut low = 0;
     let mut high = bodies.len();
@@ -41,4 +44,15 @@ fn goes_last(bodies: &[Vec<u8>], body: &[u8], keys: &[SortKey]) -> bool
     }
     let last = bodies[bodies.len() - 1].as_slice();
     !is_before(body, last, keys)
+}
+
+/// Whether it goes before the first one, which is so of each document if they come in the opposite of the order.
+fn goes_first(bodies: &[Vec<u8>], body: &[u8], keys: &[SortKey]) -> bool
+    ensures { (es : List Members) → AreBodies bodies.now es → OfBody body.now
+        (λ d. IsTrue result → GoesFirst (keys_of keys.now) d es) }
+{
+    if bodies.is_empty() {
+        return true;
+    }
+    is_before(body, bodies[0].as_slice(), keys)
 }

@@ -17,6 +17,11 @@ returns-in_err-bodies-clause-reads g c clean docs are =
     let p = err_from_is_err_and c.from_residual-in_err-bodies.result c.from_residual-in_err-bodies.ensures.1 in
     rw (p.1, p.2) (spoiled_as _ (AreArranged c.args.arrangement.now) _ _ docs docs c.in_ok-gathered.gathered (refusal Memory) (faults.Memory, (λ e. cc), refl) (c.in_ok-gathered.ensures.reads clean docs are))
 
+pub returns-in_err-check_rows-clause-reads : goal.returns-in_err-check_rows-clause-reads
+returns-in_err-check_rows-clause-reads g c clean docs are =
+    let p = err_from_is_err_and c.from_residual-in_err-check_rows.result c.from_residual-in_err-check_rows.ensures.1 in
+    rw (p.1, p.2) (spoiled_as _ (AreArranged c.args.arrangement.now) _ _ docs docs c.in_ok-gathered.gathered c.in_err-check_rows.field-0.0 c.in_err-check_rows.ensures (c.in_ok-gathered.ensures.reads clean docs are))
+
 pub returns-clause-reads : goal.returns-clause-reads
 returns-clause-reads g c clean docs are =
     answered_as _ (AreArranged c.args.arrangement.now) _ _ docs docs c.in_ok-gathered.gathered c.in_ok-bodies.bodies (λ ds t. subst (λ a. AreArranged a c.in_ok-bodies.bodies ds) c.new-gathering.ensures.same (c.in_ok-bodies.ensures c.new-gathering.result ds t)) (c.in_ok-gathered.ensures.reads clean docs are)

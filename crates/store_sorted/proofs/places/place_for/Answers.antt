@@ -1,5 +1,5 @@
 use Rattle.std.proofs.Common.{refl, arith}
-use Rattle.store_sorted.proofs.SearchLemmas.{placed_last, search_down, search_end, search_start, search_up}
+use Rattle.store_sorted.proofs.SearchLemmas.{placed_first, placed_last, search_down, search_end, search_start, search_up}
 use Rattle.store_sorted.proofs.places.place_for.Goals as goal
 use Rattle.store_sorted.specs.Bodies.{keys_of}
 
@@ -31,3 +31,6 @@ returns-clause-place c = search_end (keys_of c.args.keys.now) c.args.bodies.now 
 
 pub returns-then-goes_last-clause-place : goal.returns-then-goes_last-clause-place
 returns-then-goes_last-clause-place c = placed_last (keys_of c.args.keys.now) c.args.bodies.now c.args.body.now _ refl (λ es are d is. c.goes_last.ensures es are d is c.if-goes_last.true)
+
+pub returns-then-goes_first-clause-place : goal.returns-then-goes_first-clause-place
+returns-then-goes_first-clause-place c = placed_first (keys_of c.args.keys.now) c.args.bodies.now c.args.body.now _ refl (λ es are d is. c.goes_first.ensures es are d is c.if-goes_first.true)

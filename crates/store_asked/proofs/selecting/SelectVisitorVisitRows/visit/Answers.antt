@@ -12,13 +12,13 @@ returns-in-Ok-clause-took g c first docs h =
     let took = g.T.Take.took first.taker in
     let f = filter_of c.args.self.now.filter.now in (
       h.0,
-      subst (λ l. GivesPicked (took c.take_row.new.taker) f l c.args.self.now.fault) (sym (map-append (λ (d : Doc). d.body) docs (doc_at c.args._place c.args.row.now ∷ [])))
-          (gave_more (took c.args.self.now.taker) (took c.take_row.new.taker) f (map (λ (d : Doc). d.body) docs) c.args.row.now.body.now c.args.self.now.fault (c.in-Ok.ensures.picked first.taker) h.1),
+      subst (λ l. GivesPicked (took c.hand_on.new.taker) f l c.args.self.now.fault) (sym (map-append (λ (d : Doc). d.body) docs (doc_at c.args._place c.args.row.now ∷ [])))
+          (gave_more (took c.args.self.now.taker) (took c.hand_on.new.taker) f (map (λ (d : Doc). d.body) docs) c.args.row.now.body.now c.args.self.now.fault (c.in-Ok.ensures.picked first.taker) h.1),
     )
 
 pub returns-in-Err-clause-took : goal.returns-in-Err-clause-took
 returns-in-Err-clause-took g c first docs h =
-    let took = g.T.Take.took first.taker c.take_row.new.taker in
+    let took = g.T.Take.took first.taker c.hand_on.new.taker in
     let f = filter_of c.args.self.now.filter.now in (
       h.0,
       subst (λ l. GivesPicked took f l (Some c.in-Err.error)) (sym (map-append (λ (d : Doc). d.body) docs (doc_at c.args._place c.args.row.now ∷ [])))

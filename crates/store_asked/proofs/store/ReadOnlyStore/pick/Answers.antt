@@ -12,7 +12,7 @@ returns-in-Err-clause-reads g c clean docs are = untaken (g.T.Take.took c.args.t
 pub returns-in-None-clause-reads : goal.returns-in-None-clause-reads
 returns-in-None-clause-reads g c clean docs are =
     let took = g.T.Take.took in
-    let first : SelectVisitor g.row.T.Denot = record { filter = c.args.filter; taker = c.args.taker; test = c.args.test; alloc = c.args.self.now.alloc; fault = None } in
+    let first : SelectVisitor g.row.T.Denot = record { filter = c.args.filter; taker = c.args.taker; alloc = c.args.self.now.alloc; fault = None } in
     let last = c.visit-visited.new.visitor in
     let coll = c.as_bytes.result.now in
     let same : coll ≡ name_bytes c.args.name = search rules in
@@ -22,7 +22,7 @@ returns-in-None-clause-reads g c clean docs are =
 pub returns-in-Some-clause-reads : goal.returns-in-Some-clause-reads
 returns-in-Some-clause-reads g c clean docs are =
     let took = g.T.Take.took in
-    let first : SelectVisitor g.row.T.Denot = record { filter = c.args.filter; taker = c.args.taker; test = c.args.test; alloc = c.args.self.now.alloc; fault = None } in
+    let first : SelectVisitor g.row.T.Denot = record { filter = c.args.filter; taker = c.args.taker; alloc = c.args.self.now.alloc; fault = None } in
     let last = c.visit-visited.new.visitor in
     let coll = c.as_bytes.result.now in
     let same : coll ≡ name_bytes c.args.name = search rules in

@@ -11,6 +11,13 @@ returns-then-place-self-clause-holds c = λ ds h d is.
     let self = c.args.self.now in
     held_behind (keys_of self.keys.now) self.limit ds self.bodies.items d c.place_for-place.result h c.args.body.now c.as_slice.result.now c.as_slice.ensures.value c.place_for-place.ensures.within c.place_for-place.ensures.place is c.if-place-self.true
 
+pub returns-clause-place : goal.returns-clause-place
+returns-clause-place c = (
+  c.in_ok-copy.copy,
+  c.in_ok-copy.ensures.items,
+  c.in_ok-insert.ensures.items ∙ ap (λ (l : List (Vec ℕ Global)). insert l c.place_for-place.result c.in_ok-copy.copy) c.truncate.ensures.items,
+)
+
 pub returns-clause-holds : goal.returns-clause-holds
 returns-clause-holds c = λ ds h d is.
     let self = c.args.self.now in
