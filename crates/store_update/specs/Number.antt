@@ -2,7 +2,7 @@
 -- is nearest to the exact one, and to the even one at a tie (IEEE 754-2008, 4.3.1), of the doubles that are nearest to them.
 use Rattle.std.specs.Prelude.{ℕ, ℤ, pos, neg_ℤ, ◌+ℤ◌, ◌*ℤ◌, ◌^◌, int_lt, int_le, Bool, true, false, ◌&&◌, if◌then◌else◌, Option, Some, None, Result, Ok, Err, from_bits, to_bits}
 use Rattle.std.specs.Float.{Float, binary64}
-use Rattle.std.specs.Float.Ieee.{of_int}
+use Rattle.std.specs.Float.Ieee.{div, of_int}
 use Rattle.bson_base.specs.Value.{Value, scalar, int32, int64, double, decimal}
 use Rattle.store_update.specs.declared.error.UpdateError.{UpdateError}
 use Rattle.store_update.specs.declared.error.UpdateError.TheVariants.{NotANumber, Decimal, Overflow}
@@ -16,6 +16,13 @@ number_of (scalar (int64 z)) = Ok (Whole z)
 number_of (scalar (double n)) = Ok (Double n)
 number_of (scalar (decimal d)) = Err Decimal
 number_of _ = Err NotANumber
+
+abbrev pub is_number : Value → Bool
+is_number (scalar (int32 z)) = true
+is_number (scalar (int64 z)) = true
+is_number (scalar (double n)) = true
+is_number (scalar (decimal d)) = true
+is_number _ = false
 
 abbrev pub is_narrow : Value → Bool
 is_narrow (scalar (int32 z)) = true
@@ -47,3 +54,7 @@ onward (Err e) f = Err e
 
 abbrev pub computed : (ℤ → ℤ → ℤ) → (Float → Float → Float) → Value → Value → Result Value UpdateError
 computed op near v w = onward (number_of v) (λ x. onward (number_of w) (λ y. together op near (is_narrow v && is_narrow w) x y))
+
+-- a number by a count: the double that is nearest to the quotient of the doubles that are nearest to both
+abbrev pub divided : ℕ → Value → Result Value UpdateError
+divided n v = onward (number_of v) (λ x. Ok (scalar (double (to_bits binary64 (div binary64 (nearest x) (of_int binary64 (pos n)))))))

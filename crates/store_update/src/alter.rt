@@ -155,8 +155,8 @@ fn made(
     }
 }
 
-/// Puts a value under a key: in the key's place, or last.
-fn put_value(
+/// Puts a value under a key: in the key's place, or last. The error is a refused growth.
+pub fn put_value(
     alloc: Global,
     document: &mut Document,
     key: &str,
@@ -258,7 +258,7 @@ fn settle_inside(
 }
 
 /// The document in which the value at the path has become what the operation makes of it.
-pub(crate) fn altered(
+pub fn altered(
     alloc: Global,
     document: Document,
     path: &[String],

@@ -11,6 +11,9 @@ mod operation;
 mod sets;
 mod update;
 
+pub use alter::{altered, put_value};
 pub use error::UpdateError;
+pub use numbers::{is_number, quotient, sum};
 pub use operation::{End, Operation, Place, Push, Step};
-pub use update::{is_of_id, updated};
+pub use sets::with_each;
+pub use update::{found, is_of_id, updated};

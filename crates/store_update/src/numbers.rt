@@ -2,17 +2,17 @@
 
 ghost use Rattle.std.specs.Prelude.{◌≡◌, ◌+ℤ◌, ◌*ℤ◌, ◌&&◌, ℤ, pos, to_bits};
 ghost use Rattle.std.specs.Float.{binary64};
-ghost use Rattle.std.specs.Float.Ieee.{add, mul};
+ghost use Rattle.std.specs.Float.Ieee.{add, div, mul, of_int};
 ghost use Rattle.bson_base.specs.Value.{double, scalar};
 ghost use Rattle.bson_model.specs.View.{view};
 ghost use Rattle.store_update.specs.Answer.{checked, viewed};
-ghost use Rattle.store_update.specs.Number.{computed, fits_32, is_narrow, nearest, number_as, number_of, together};
+ghost use Rattle.store_update.specs.Number.{computed, divided, fits_32, is_narrow, is_number, nearest, number_as, number_of, together};
 
 use crate::doubles::{double_of, pattern_of};
 use crate::error::UpdateError;
 use bson_base::DoubleBits;
 use bson_model::Bson;
-use std::num::nearest_i64_to_f64;
+use std::num::{nearest_i64_to_f64, nearest_usize_to_f64};
 
 /// A number that is computed with.
 #[derive(Clone, Copy)]
@@ -48,6 +48,35 @@ fn number_of(value: &Bson) -> Result<Number, UpdateError>
         Bson::MaxKey => Err(UpdateError::NotANumber),
         Bson::MinKey => Err(UpdateError::NotANumber),
         Bson::DbPointer(_) => Err(UpdateError::NotANumber),
+    }
+}
+
+/// Whether a value is a number, of any kind.
+pub fn is_number(value: &Bson) -> bool
+    ensures { result ≡ is_number (view value.now) }
+{
+    match value {
+        Bson::Int32(_) => true,
+        Bson::Int64(_) => true,
+        Bson::Double(_) => true,
+        Bson::Decimal128(_) => true,
+        Bson::String(_) => false,
+        Bson::Array(_) => false,
+        Bson::Document(_) => false,
+        Bson::Boolean(_) => false,
+        Bson::Null => false,
+        Bson::RegularExpression(_) => false,
+        Bson::JavaScriptCode(_) => false,
+        Bson::JavaScriptCodeWithScope(_) => false,
+        Bson::Timestamp(_) => false,
+        Bson::Binary(_) => false,
+        Bson::ObjectId(_) => false,
+        Bson::DateTime(_) => false,
+        Bson::Symbol(_) => false,
+        Bson::Undefined => false,
+        Bson::MaxKey => false,
+        Bson::MinKey => false,
+        Bson::DbPointer(_) => false,
     }
 }
 
@@ -140,6 +169,13 @@ fn value_of(number: f64) -> Bson
     Bson::Double(DoubleBits::from_bits(pattern_of(number)))
 }
 
+/// A number by a count, as a double.
+fn near_quotient(number: Number, count: usize) -> Bson
+    ensures { view result ≡ scalar (double (to_bits binary64 (div binary64 (nearest number) (of_int binary64 (pos count))))) }
+{
+    value_of(nearest(number) / nearest_usize_to_f64(count))
+}
+
 /// The sum of two numbers that aren't both integers.
 fn near_sum(x: Number, y: Number) -> Bson
     ensures { view result ≡ scalar (double (to_bits binary64 (add binary64 (nearest x) (nearest y)))) }
@@ -180,8 +216,9 @@ fn product_as(narrow: bool, x: Number, y: Number) -> Result<Bson, UpdateError>
     }
 }
 
-/// The sum of two numbers.
-pub(crate) fn sum(one: &Bson, other: &Bson) -> Result<Bson, UpdateError>
+/// The sum of two numbers: `NotANumber` if one of them is none, `Decimal` if one is a decimal, or `Overflow` if both are
+/// integers and the sum doesn't fit in 64 bits.
+pub fn sum(one: &Bson, other: &Bson) -> Result<Bson, UpdateError>
     ensures { viewed result ≡ computed (λ x y. x +ℤ y) (add binary64) (view one.now) (view other.now) }
 {
     let x = number_of(one)?;
@@ -196,4 +233,12 @@ pub(crate) fn product(one: &Bson, other: &Bson) -> Result<Bson, UpdateError>
     let x = number_of(one)?;
     let y = number_of(other)?;
     product_as(are_narrow(one, other), x, y)
+}
+
+/// A number by a count, as a double: `NotANumber` if it is none, or `Decimal` if it is a decimal.
+pub fn quotient(number: &Bson, count: usize) -> Result<Bson, UpdateError>
+    ensures { viewed result ≡ divided count (view number.now) }
+{
+    let number = number_of(number)?;
+    Ok(near_quotient(number, count))
 }

@@ -61,12 +61,8 @@ fn include_one(alloc: Global, value: &Bson, items: &mut Vec<Bson>) -> Result<(),
     Ok(())
 }
 
-/// The items, with each of the new ones that isn't among them yet.
-pub(crate) fn with_each(
-    alloc: Global,
-    new: &[Bson],
-    items: Vec<Bson>,
-) -> Result<Vec<Bson>, AllocError>
+/// The items, with each of the new ones that isn't among them yet. The error is a refused growth.
+pub fn with_each(alloc: Global, new: &[Bson], items: Vec<Bson>) -> Result<Vec<Bson>, AllocError>
     ensures { IfOk result (λ all. map view all.items ≡ with_each (map view new.now) (map view items.items)) }
 {
     let mut all = items;

@@ -68,8 +68,8 @@ fn changed(
     altered(alloc, document, path, operation)
 }
 
-/// The value that the rest of a path leads to.
-fn found<'a>(value: Option<&'a Bson>, path: &[String]) -> Result<Option<&'a Bson>, UpdateError>
+/// The value that the rest of a path leads to, through documents alone. Through is refused where it meets another value.
+pub fn found<'a>(value: Option<&'a Bson>, path: &[String]) -> Result<Option<&'a Bson>, UpdateError>
     ensures { result_map lent result ≡ found (path_of path.now) (lent value.entry) }
 {
     let Some((key, rest)) = path.split_first() else {

@@ -1,0 +1,14 @@
+pub mod FaithfulLemmas
+pub mod WrittenLemmas
+pub mod MatchLemmas
+pub mod EachLemmas
+pub mod CountLemmas
+pub mod TwiceLemmas
+pub mod UnwindLemmas
+pub mod UnwoundLemmas
+pub mod RunLemmas
+pub mod AccumulatedLemmas
+pub mod LedLemmas
+pub mod SumLemmas
+pub mod GroupLemmas
+pub mod FieldLemmas
