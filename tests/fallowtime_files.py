@@ -215,6 +215,10 @@ for file in LIGHT:
 # A query that a row doesn't answer doesn't test it, and one that it answers does.
 holds("a bad row that isn't selected", run("bad.db", "find", "c", '{"_id":{"$lt":3}}'), (0, b"".join(line_of(document(i)) for i in range(3)), ""))
 holds("a bad row that is", run("bad.db", "find", "c", '{"_id":{"$exists":false}}'), refusal("BadRow 7"))
+# Of a sort with a limit only the rows of what is handed out are tested, at its end: the bad one has no `_id`, so it is the first.
+holds("a bad row that is among the first", run("bad.db", "find", "c", "{}", "--sort", "_id", "--limit", "1"), refusal("BadRow 7"))
+holds("a bad row that is held for a while", run("bad.db", "find", "c", "{}", "--sort", "_id:-1", "--limit", "2"),
+      (0, line_of(document(299)) + line_of(document(298)), ""))
 for file, told, missed in ("dangling.db", "NotPlain", "NoFile"), ("file:shop.db", "NoName", "NoName"), (":memory:", "NoName", "NoName"):
     for words in READS + CHANGES:
         makes = words[0] in MAKERS
