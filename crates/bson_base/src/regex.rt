@@ -51,7 +51,8 @@ impl fmt::Display for Regex {
     }
 }
 
-// The text with its characters ascending.
+/// The text with its characters ascending by code point, as options of a regular expression are stored. The error is a
+/// refused growth.
 fn in_order(alloc: Global, text: &str) -> Result<String, AllocError>
     ensures { IfOk result (λ t. string_bytes t ≡ sorted_text text.now) }
 {

@@ -77,7 +77,8 @@ pub enum UuidRepresentation {
 impl UuidRepresentation {
     ghost use Rattle.bson_base.specs.Uuids.{uuid_subtype, uuid_form};
 
-    // The subtype of a UUID in this form.
+    /// The subtype of a binary value that holds a UUID in this form: 04 for `Standard`, 03 for the forms of old
+    /// drivers.
     pub(crate) fn subtype(self) -> BinarySubtype
         ensures { result ≡ uuid_subtype self }
     {
@@ -87,7 +88,7 @@ impl UuidRepresentation {
         }
     }
 
-    // The bytes put into this form; for bytes in this form, those of the UUID.
+    /// The 16 bytes put into this form; for bytes in this form, those of the UUID.
     pub(crate) fn reordered(self, bytes: [u8; 16]) -> [u8; 16]
         ensures { result ≡ uuid_form self bytes }
     {

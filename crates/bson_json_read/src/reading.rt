@@ -97,7 +97,8 @@ fn is_code_and_scope(code: &str, scope: &str) -> bool
     code == "$code" && scope == "$scope"
 }
 
-// An object with a reserved key.
+/// The value of an object with a reserved key, a scope with at most `levels` levels. `NotExtendedJson` if the object
+/// has no form of a value, else the error of its body.
 #[cycle(read)]
 fn read_typed(alloc: Global, members: &[(&str, Value<'_>)], levels: u32) -> Result<Bson>
     ensures { GivesReading view result (typed_of (members_view members.now)) }

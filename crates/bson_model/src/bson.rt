@@ -452,7 +452,7 @@ impl Bson {
     }
 }
 
-// The bytes of a binary of subtype Generic.
+/// The bytes of a binary of subtype 00, to be written to; `None` for any other subtype.
 fn generic_bytes(binary: &mut Binary) -> Option<&mut Vec<u8>>
     ensures* writes_back { sem 𝓛 (LendsIf binary_row bytes_row binary.entry result (with_bytes binary.old) binary.old) }
     ensures value { option_map (λ b. b.now.items) result ≡ kinds.as_binary_generic (binary_tree binary.old) }

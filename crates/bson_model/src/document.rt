@@ -140,7 +140,8 @@ impl Document {
         Ok(())
     }
 
-    // The value under the key, after `default` was put last if there was none.
+    /// The value under the key, to be written to, after `default` was put last if there was none. The error is a
+    /// refused growth, with nothing put in.
     #[tactic(auto, using(crate::proofs::SeenLemmas::seen_or_default, crate::proofs::SeenLemmas::put_seen, crate::proofs::SeenLemmas::seen_absent))]
     pub(crate) fn get_or_insert(
         &mut self,
@@ -154,7 +155,8 @@ impl Document {
         self.pairs.get_or_insert(key, default)
     }
 
-    // The same of the value that `default` makes, which is called only if there was none.
+    /// The value under the key, to be written to, after the one that `default` makes was put last if there was none;
+    /// only then is it called. The error is a refused growth, with nothing put in.
     pub(crate) fn get_or_insert_with<F: FnOnce() -> Bson>(
         &mut self,
         key: String,
@@ -344,6 +346,7 @@ impl Document {
         document_in(self.pairs_mut(), key)
     }
 
+    /// The pairs, to be written to.
     // What a `&mut` ends as that lends one of its own type is proved by hand, over two calls that each lend another type.
     fn pairs_mut(&mut self) -> &mut Pairs<Bson>
         ensures* writes_back { sem 𝓛 (LendsPairs self.entry result) }

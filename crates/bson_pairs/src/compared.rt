@@ -10,7 +10,8 @@ use crate::pairs::Pairs;
 use std::hash::{Hash, Hasher};
 
 impl<V> Pairs<V> {
-    // The value under a key. A place that the key may have is looked at first.
+    /// The value under a key, or `None` if the key isn't there. A place that the key may have, counted from zero, is
+    /// looked at first.
     fn get_near(&self, key: &str, place: usize) -> Option<&V>
         ensures { option_copied result ≡ get key.now self.now }
     {
@@ -26,7 +27,7 @@ impl<V> Pairs<V> {
         }
     }
 
-    // Whether each of these keys is there.
+    /// Whether each of these keys is there.
     fn has_all(&self, keys: &[String]) -> bool
         ensures { result ≡ list_all (λ k. has_key (string_bytes k) self.now) keys.now }
     {
@@ -40,7 +41,7 @@ impl<V> Pairs<V> {
 }
 
 impl<V: PartialEq> Pairs<V> {
-    // Whether neither has a value under a key, or both have, and the two are equal.
+    /// Whether neither has a value under a key, or both have, and the two are equal. `place` is where the key may be.
     fn is_same_at(&self, other: &Pairs<V>, key: &str, place: usize) -> bool
         ensures { result ≡ same_at V.eq self.now other.now key.now }
     {
@@ -53,7 +54,7 @@ impl<V: PartialEq> Pairs<V> {
         }
     }
 
-    // Under each of these keys.
+    /// Whether both are the same under each of these keys.
     fn is_same_at_all(&self, other: &Pairs<V>, keys: &[String]) -> bool
         ensures { result ≡ list_all (λ k. same_at V.eq self.now other.now (string_bytes k)) keys.now }
     {

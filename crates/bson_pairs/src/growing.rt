@@ -37,7 +37,8 @@ impl<V: Drop> GrowingPairs<V> {
         GrowingPairs { keys, values }
     }
 
-    // As `Pairs::insert`; the value that was there is dropped.
+    /// Puts a value under a key as `Pairs::insert` does; the value that was there is dropped. The error is a refused
+    /// growth, with nothing put in.
     fn put(&mut self, key: String, value: V) -> Result<(), AllocError>
         ensures ok { OnOk result (self.new ≡ put (string_bytes key) value self.old) }
         ensures err { OnErr result (self.new ≡ self.old) }

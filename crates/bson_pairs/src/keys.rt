@@ -30,7 +30,7 @@ impl Model for Keys {
     ghost invariant = { λ k. (k.order.items ≡ places_of (key_bytes k.texts.items)) × IsDistinct bytes_eq (key_bytes k.texts.items) };
 }
 
-// Where a key is in this index, or where it would go, and how many keys were compared.
+/// Where a key is in this index, or where it would go as the error, counted from zero; and how many keys were compared.
 fn search(texts: &[String], order: &[usize], key: &str) -> (Result<usize, usize>, u64)
     requires { order.now ≡ places_of (key_bytes texts.now) }
     ensures stands { IfOk result.0 (λ j. IsIndexedAt key.now j (key_bytes texts.now)) }
@@ -53,14 +53,14 @@ fn search(texts: &[String], order: &[usize], key: &str) -> (Result<usize, usize>
     (Err(low), compared)
 }
 
-// A place, after the one at `taken` was taken out.
+/// A place, counted from zero, after the one at `taken` was taken out: one less behind it.
 fn place_without(taken: usize, place: usize) -> usize
     ensures { result ≡ place_without taken place }
 {
     if taken < place { place - 1 } else { place }
 }
 
-// The places above the one that was taken out move down.
+/// Moves the places behind the one that was taken out down by one.
 fn lower(order: &mut [usize], taken: usize)
     ensures { order.new ≡ map (place_without taken) order.old }
 {

@@ -54,7 +54,7 @@ impl<V> Pairs<V> {
         }
     }
 
-    // The pairs of these keys and values.
+    /// The pairs of these keys and values, of which there are as many.
     pub(crate) fn from_parts(keys: Keys, values: Vec<V>) -> Pairs<V>
         requires { length values.items ≡ length keys }
         ensures { result ≡ entries_of keys values.items }
@@ -213,7 +213,8 @@ impl<V: Drop> Pairs<V> {
         }
     }
 
-    // Puts each value under its key, one after the other, as `insert` does.
+    /// Puts each value under its key, one after the other, as `insert` does. The error is a refused growth; what was
+    /// put in before it stays.
     fn put_each(&mut self, pairs: Vec<(String, V)>) -> Result<(), AllocError>
         ensures ok { OnOk result (self.new ≡ put_each pairs.items self.old) }
         ensures err { OnErr result (PutsBeforeNew pairs.items self.old self.new) }
@@ -224,7 +225,8 @@ impl<V: Drop> Pairs<V> {
         Ok(())
     }
 
-    // The same, by a tree of the keys' places.
+    /// Puts each value under its key as `put_each` does, by a tree of the keys' places instead of the index. The
+    /// error is a refused growth; what was put in before it stays.
     fn put_each_by(
         &mut self,
         tree: BTreeMap<String, usize>,

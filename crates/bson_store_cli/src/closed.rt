@@ -39,6 +39,7 @@ pub struct Watched<'r, W> {
 }
 
 impl<'r, W: Write> Watched<'r, W> {
+    /// Output over `inner` that notes in `reader` when the reader of it has gone.
     pub fn new(inner: W, reader: &'r Reader) -> Watched<'r, W> {
         Watched { inner, reader }
     }
@@ -70,6 +71,7 @@ pub struct Hushed<'r, W> {
 }
 
 impl<'r, W: Write> Hushed<'r, W> {
+    /// Output over `inner` that takes what is written and writes nothing once `reader` says that the reader has gone.
     pub fn new(inner: W, reader: &'r Reader) -> Hushed<'r, W> {
         Hushed { inner, reader }
     }

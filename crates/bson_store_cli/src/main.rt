@@ -174,6 +174,8 @@ fn start(rt: &HostRuntime, words: &[String]) -> u8 {
     }
 }
 
+/// Takes the stack that the programs need, and runs the one that the words of the command line name; returns its
+/// status, or that of a report that there is no memory for the stack.
 fn main(rt: HostRuntime) -> ExitCode {
     if stack::reserve(&rt).is_err() {
         return ExitCode::from(report(rt.stderr(), ErrorKind::Memory));

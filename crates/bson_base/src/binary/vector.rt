@@ -113,7 +113,8 @@ impl Vector {
         }
     }
 
-    // The bytes of a binary value that holds it.
+    /// The bytes of a binary value of subtype 09 that holds the vector: the byte of its type, the number of bits to
+    /// leave out, and the numbers. The error is a refused growth.
     pub(super) fn to_bytes(&self, alloc: Global) -> std::result::Result<Vec<u8>, AllocError>
         ensures { IfOk result (λ v. v.items ≡ vector_bytes (vector_value self.now)) }
     {
@@ -136,7 +137,7 @@ impl Vector {
     }
 }
 
-// Whether `padding` bits of the last byte can be left out.
+/// Whether so many bits of the last byte can be left out: fewer than 8, and none if there is no byte.
 fn can_pad(padding: u8, bytes: &[u8]) -> bool
     ensures { result ≡ is_padding padding bytes.now }
 {

@@ -11,7 +11,8 @@ use crate::bson::Bson;
 use crate::document::{Document, ValueAccessError, ValueAccessResult};
 use bson_pairs::Pairs;
 
-// `NotPresent` and `UnexpectedType` as in the typed getters.
+/// The document under a key, to be written to. `NotPresent` if the key isn't there, `UnexpectedType` if its value is no
+/// document.
 pub(crate) fn document_in<'a>(
     pairs: &'a mut Pairs<Bson>,
     key: &str,

@@ -172,7 +172,8 @@ fn read_members(alloc: Global, members: Map<String, Value>, levels: u32) -> Resu
     Ok(document)
 }
 
-// An object with a reserved key.
+/// The value of an object with a reserved key, a scope with at most `levels` levels. `DeserializationError` if the
+/// object has no form of a value, else the error of its body.
 #[cycle(read)]
 fn read_typed(alloc: Global, members: Map<String, Value>, levels: u32) -> Result<Bson>
     ensures { GivesReading view result (typed_of (members_view members.entries)) }

@@ -116,7 +116,7 @@ fn put_member(members: &mut Map<String, Value>, key: String, value: Value) -> Re
     Ok(())
 }
 
-// An object of one member.
+/// An object of one member. The error is a refused growth.
 fn wrapped(alloc: Global, key: &str, value: Value) -> Result<Value, AllocError>
     ensures { IfOk result (λ v. data_of v ≡ object (json.member key.now (data_of value) no_members)) }
 {

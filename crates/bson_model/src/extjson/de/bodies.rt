@@ -32,7 +32,7 @@ pub(super) fn text_of(value: Value) -> Result<String>
     }
 }
 
-// The body of an object with this key alone.
+/// The body of an object with this key alone; `DeserializationError` if it has other keys or none.
 fn single(members: Map<String, Value>, key: &str) -> Result<Value>
     ensures { GivesReading (λ v. data_of v) result (single key.now (members_view members.entries)) }
 {
@@ -60,7 +60,8 @@ fn under(value: Value, key: &str) -> Result<Value>
     }
 }
 
-// The bodies of an object with these two keys alone, the first one below the second.
+/// The bodies of an object with these two keys alone, the first one below the second; `DeserializationError` if it has
+/// other keys.
 fn pair(members: Map<String, Value>, first: &str, second: &str) -> Result<(Value, Value)>
     ensures { GivesReading (λ p. (data_of p.0, data_of p.1)) result (bodies_in first.now second.now (members_view members.entries)) }
 {
@@ -292,7 +293,7 @@ fn is_true(value: Value) -> bool
     }
 }
 
-// The value of a key that stands for one value alone, if its body is right.
+/// The value of a key that stands for one value alone, if its body is right; `DeserializationError` if it isn't.
 fn constant(is_right: bool, constant: Bson) -> Result<Bson>
     ensures { GivesReading view result (if is_right then Ok (view constant) else Err DeserializationError) }
 {

@@ -70,7 +70,7 @@ fn sign_bit(negative: bool) -> u64
     if negative { SIGN } else { 0 }
 }
 
-// What is before a dot, and what is after it; of a text without one all is before.
+/// What is before the first dot, and what is behind it; of a text without one all is before.
 fn split_dot(text: &[u8]) -> (&[u8], &[u8])
     ensures { result.0.now ++ result.1.now ≡ without_dot text.now }
 {
