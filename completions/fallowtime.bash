@@ -33,7 +33,7 @@ _fallowtime_files() {
 
 _fallowtime() {
     local word=${COMP_WORDS[COMP_CWORD]} before=${COMP_WORDS[COMP_CWORD - 1]} options=--wait front
-    local commands=(insert put replace get set unset update replace-one delete find-and-update find-and-replace find-and-delete remove find count distinct import export drop rename copy collections check backup apply import-all export-all edit)
+    local commands=(insert put replace get set unset update replace-one delete find-and-update find-and-replace find-and-delete remove find count distinct aggregate import export drop rename copy collections check backup apply import-all export-all edit)
     COMPREPLY=()
     if [ "$COMP_CWORD" -eq 1 ]; then
         case $word in -*) _fallowtime_among "$word" --help --version --explain ;; *) _fallowtime_files "$word" ;; esac
@@ -69,6 +69,7 @@ _fallowtime() {
     find-and-delete) front=5 options="--sort --skip --limit --fields --without --canonical --bson --wait" ;;
     find) front=4 options="--sort --skip --limit --fields --without --canonical --bson --pretty --wait" ;;
     count) front=4 options="--skip --limit --wait" ;;
+    aggregate) front=5 ;;
     distinct) front=5 options="--count --canonical --wait" ;;
     import) front=4 options="--json --upsert --skip-existing --batch --wait" ;;
     edit) front=5 ;;

@@ -4,7 +4,7 @@ import re
 
 TABLE = pathlib.Path(__file__).resolve().parent.parent / "crates/fallowtime_words/src/table.rt"
 # What pages and the help have for each argument; an object of options is no word. The script alone takes INPUT.
-ARGUMENTS = {"Collection": "COLL", "Document": "DOC", "Id": "ID", "Key": "PATH", "Value": "VALUE", "Query": "[QUERY]", "Selection": "QUERY", "Update": "UPDATE",
+ARGUMENTS = {"Collection": "COLL", "Document": "DOC", "Id": "ID", "Key": "PATH", "Value": "VALUE", "Query": "[QUERY]", "Selection": "QUERY", "Update": "UPDATE", "Pipeline": "PIPELINE",
              "Options": "", "Documents": "[INPUT]", "IndexPath": "PATH", "NewName": "NEW", "File": "PATH", "Folder": "DIR"}
 # The options beside --wait by the constants of the table.
 OPTIONS = {"NO_OPTION": [], "CANONICAL": ["--canonical"], "PRINTED": ["--canonical", "--bson"],

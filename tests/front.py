@@ -285,7 +285,7 @@ print(f"{count} lines of the table, {'also by the program' if knows else 'none o
 for words, hint in [
     (["t.db", "isnert", "c", "{}"], "there is no command 'isnert', but there is insert; fallowtime help lists the commands"),
     (["t.db", "FIND", "c"], "there is no command 'FIND', but there is find; "),
-    (["t.db", "aggregate", "c"], "there is no command 'aggregate'; "),
+    (["t.db", "mapReduce", "c"], "there is no command 'mapReduce'; "),
     (["t.db", "a\x1b[31mb\nc"], "there is no command 'a31mbc'; "),
     (["t.db", "rm", "c", "1"], "there is no command 'rm', but there is remove; "),
     (["t.db", "Delete", "c", "1"], "there is no command 'Delete', but there is delete, with --many of all that are selected; "),

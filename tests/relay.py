@@ -227,11 +227,20 @@ def collections(program, folder):
     holds("one that is put in and shown", modify(query={"_id": 2}, update={"a": 9, "b": 3}, upsert=True, new=True, fields={"b": 1, "_id": 0}),
           ({"n": 1, "updatedExisting": False, "upserted": 2}, {"b": 3}))
     holds("refused upserts", (modify(query={"_id": 5}, remove=True, upsert=True), modify(query={"_id": 6, "a": "x"}, update={"$inc": {"a": 1}}, upsert=True)), (2, 14))
-    holds("pipelines", [ask({"aggregate": "items", "pipeline": stages, "cursor": {}}) for stages in
-                        ([{"$skip": 1}, {"$match": {}}], [{"$limit": 0}], [{"$limit": 1}, {"$skip": 1}], [{"$match": {}}, {"$match": {}}], [{"$sort": {}}], [{"$unwind": "$a"}])],
-          [238, 2, 238, 238, 2, 238])
-    found = ask({"aggregate": "items", "pipeline": [{"$match": {"_id": {"$gt": 0}}}, {"$sort": {"_id": -1}}, {"$skip": 1}, {"$limit": 1}, {"$project": {"a": 1, "_id": 0}}], "cursor": {}})
-    holds("a pipeline", found["cursor"]["firstBatch"], [{"a": 2}])
+
+    def pipeline(*stages):
+        answer = ask({"aggregate": "items", "pipeline": stages, "cursor": {}})
+        return answer["cursor"]["firstBatch"] if isinstance(answer, dict) else answer
+
+    holds("refused pipelines", (pipeline({"$limit": 0}), pipeline({"$sort": {}}), pipeline({"$unwind": "a"}), pipeline({"$lookup": {}}), pipeline({"$out": "x"}, {"$match": {}})),
+          (2, 2, 2, 238, 238))
+    holds("a pipeline that finds", pipeline({"$match": {"_id": {"$gt": 0}}}, {"$sort": {"_id": -1}}, {"$skip": 1}, {"$limit": 1}, {"$project": {"a": 1, "_id": 0}}), [{"a": 2}])
+    holds("stages in any order", (pipeline({"$skip": 1}, {"$match": {}}), pipeline({"$limit": 1}, {"$skip": 1}), pipeline({"$match": {}}, {"$match": {"a": 2}})),
+          ([{"_id": 2, "a": 9, "b": 3}], [], [{"_id": 1, "a": 2}]))
+    holds("a group", pipeline({"$group": {"_id": None, "sum": {"$sum": "$a"}, "mean": {"$avg": "$a"}, "all": {"$push": "$b"}}}), [{"_id": None, "sum": 11, "mean": 5.5, "all": [3]}])
+    holds("an array taken apart", pipeline({"$group": {"_id": 1, "all": {"$push": "$a"}}}, {"$unwind": "$all"}, {"$count": "n"}), [{"n": 2}])
+    holds("no sum", (ask({"insert": "items", "documents": [{"_id": 3, "a": bson.Int64(2**63 - 1)}]})["n"], pipeline({"$group": {"_id": 1, "sum": {"$sum": "$a"}}}), ask({"delete": "items", "deletes": [{"q": {"_id": 3}, "limit": 1}]})["n"]),
+          (1, 2, 1))
     holds("the end", relay.end(), 0)
     print("collections: made, their indexes, pipelines that find, and documents found or put in")
 

@@ -19,10 +19,9 @@ class Aggregating(Changing):
     __slots__ = ()
 
     def aggregate(self, pipeline: Sequence[Document], *, hint: Any = None, **options: Any) -> CommandCursor:
-        """What a pipeline makes of the documents: `$match`, `$sort`, `$skip`, `$limit`, `$project` and `$count`, in
-        this order and each once at the most, except that there may be several `$match`, also behind the `$sort`. At
-        the end `$out` puts it into a collection that has no document, in one step, or `$merge` into any, and then
-        nothing is returned."""
+        """What a pipeline makes of the documents: `$match`, `$sort`, `$skip`, `$limit`, `$project`, `$count`, `$unwind`
+        and `$group`, one after the other. At the end `$out` puts it into a collection that has no document, in one
+        step, or `$merge` into any, and then nothing is returned."""
         test_options("aggregate", options)
         self._test_hint(hint)
         stages = pipeline_of(pipeline)
@@ -37,6 +36,9 @@ class Aggregating(Changing):
 
     def _fetching(self, stages: Stages) -> Callable[[], List[Dict[str, Any]]]:
         """What returns the documents of stages."""
+        if stages.text is not None:
+            text = stages.text
+            return lambda: [self._decoder.document(tree) for tree in self._ask("aggregate", text)["documents"]]
         if stages.count is None:
             cursor = self.find(stages.query, stages.projection)
             return lambda: cursor._fetched(stages.part)

@@ -95,6 +95,11 @@ def _words_of_distinct(name: str, path: str, query: str) -> Words:
     return [*_named(name, json.loads(path), query), "--canonical"]
 
 
+def _words_of_aggregate(name: str, pipeline: str) -> Words:
+    refuse("a pipeline that is no find and no count, of a store that is only read",
+           "the command prints what a stage makes without the kinds of its numbers")
+
+
 def _documents(output: bytes) -> Dict[str, Any]:
     return {"documents": [json.loads(line) for line in output.split(b"\n") if line]}
 
@@ -126,6 +131,7 @@ _COMMANDS: Dict[str, "tuple[Callable[..., Words], Callable[[bytes], Dict[str, An
     "get": (_words_of_get, _document),
     "find": (_words_of_find, _documents),
     "count": (_named, _count),
+    "aggregate": (_words_of_aggregate, _documents),
     "distinct": (_words_of_distinct, _values),
     "export": (_named, _bytes),
     "collections": (lambda: [], _names),

@@ -90,7 +90,7 @@ class Aio(WithFolder, unittest.IsolatedAsyncioTestCase):
         await cursor.close()
         self.assertEqual((await cursor.to_list(), await self.store.never.count_documents({})), ([], 0))
         with self.assertRaises(NotImplementedError):
-            await aggregate([{"$group": {"_id": None}}]).to_list()
+            await aggregate([{"$lookup": {"from": "x"}}]).to_list()
 
     async def test_indexes_and_names(self):
         self.assertEqual(await self.orders.create_index("x"), "x_1")

@@ -549,12 +549,26 @@ class Asking(WithOrders):
             ([{"$match": {"_id": {"$gt": 1}}}, {"$count": "n"}], [{"n": 2}]),
             ([{"$limit": 2}, {"$count": "n"}], [{"n": 2}]),
             ([{"$match": {"_id": 9}}, {"$count": "n"}], []),
+            ([{"$limit": 2}, {"$match": {"_id": {"$gt": 1}}}], self.documents[1:2]),
+            ([{"$limit": 2}, {"$skip": 1}], self.documents[1:2]), ([{"$limit": 2}, {"$limit": 1}], self.documents[:1]),
+            ([{"$group": {"_id": None, "n": {"$count": {}}, "sum": {"$sum": "$x"}, "least": {"$min": "$x"}}}],
+             [{"_id": None, "n": 3, "sum": 66, "least": 11}]),
+            ([{"$group": {"_id": "$y", "all": {"$push": "$x"}}}, {"$sort": {"_id": -1}}, {"$limit": 1}],
+             [{"_id": None, "all": [11, 22, 33]}]),
+            ([{"$unwind": "$tags"}, {"$group": {"_id": "$_id", "n": {"$sum": 1}}}, {"$count": "n"}], [{"n": 3}]),
+            ([{"$unwind": {"path": "$none", "preserveNullAndEmptyArrays": True}}], self.documents),
         ]:
-            self.assertEqual(list(aggregate(pipeline)), wanted)
+            with self.subTest(pipeline=pipeline):
+                self.assertEqual(list(aggregate(pipeline)), wanted)
         for pipeline, error in [
-            ([{"$group": {"_id": None}}], NotImplementedError), ([{"$limit": 1}, {"$match": {}}], NotImplementedError),
-            ([{"$limit": 1}, {"$skip": 1}], NotImplementedError), ([{"$limit": 1}, {"$limit": 1}], NotImplementedError),
-            ([{"$project": {"x": "$y"}}], NotImplementedError), ([{"$unwind": "$x"}], NotImplementedError),
+            ([{"$project": {"x": "$y"}}], NotImplementedError), ([{"$unwind": "x"}], NotImplementedError),
+            ([{"$unwind": {"path": "$x", "includeArrayIndex": "i"}}], NotImplementedError),
+            ([{"$group": {"x": {"$sum": 1}}}], TypeError), ([{"$group": {"_id": {"x": "$x"}}}], NotImplementedError),
+            ([{"$group": {"_id": 1, "x": {"$stdDevPop": "$x"}}}], NotImplementedError),
+            ([{"$group": {"_id": 1, "x": {"$sum": {"$add": [1]}}}}], NotImplementedError),
+            ([{"$group": {"_id": "$$ROOT"}}], NotImplementedError), ([{"$group": {"_id": 1, "x.y": {}}}], ValueError),
+            ([{"$group": {"_id": 1, "x": 5}}], TypeError), ([{"$sort": {}}, {"$unwind": "$x"}], TypeError),
+            ([{"$lookup": {}}], NotImplementedError),
             ([{"$match": {}, "$limit": 1}], TypeError), ({"$match": {}}, TypeError), ([{"$limit": 0}], ValueError),
             ([{"$count": "$x"}], ValueError), ([{"$project": {}}], TypeError), ([{"$match": 5}], TypeError),
         ]:

@@ -58,6 +58,8 @@ class OnlyRead(WithFolder):
         for path in "a,b", "a:1", "-a", "a b":
             self.assertRaises(NotImplementedError, self.reader.plain.find(sort=path).to_list)
         self.assertEqual(list(self.reader.plain.aggregate([{"$match": {"x": 9}}, {"$count": "n"}])), [{"n": 1}])
+        grouped = self.reader.plain.aggregate([{"$group": {"_id": "$x", "n": {"$sum": 1}}}])
+        self.assertRaises(NotImplementedError, list, grouped)
 
     def test_nothing_is_changed(self):
         plain = self.reader.plain

@@ -102,6 +102,7 @@ module _ (Same More : Type 0) (same : Same → More) (Of Then : Ways → Type 0)
   of_request (request.Find f a) h = same h
   of_request (request.Count f p) h = same h
   of_request (request.Distinct path f counts) h = same h
+  of_request (request.Aggregate f stages) h = same h
   of_request (request.Index path) h = same h
   of_request (request.DropIndex path) h = same h
   of_request request.Collections h = same h

@@ -52,6 +52,7 @@ module _ (n : List ℕ) (s : State) (k : ErrorKind) where
   stays (request.FindAndChange g w k) (is, why) = absurd cc
   stays (request.Count g p) (is, why) = absurd cc
   stays (request.Distinct path g counts) (is, why) = absurd cc
+  stays (request.Aggregate g stages) (is, why) = absurd cc
   stays (request.Import stream e) (is, why) = absurd cc
   stays (request.Transfer how) (is, why) = absurd cc
   stays (request.Index path) (is, why) = absurd cc
@@ -75,6 +76,7 @@ module _ (n : List ℕ) (s : State) (k : ErrorKind) where
   leaves (request.FindAndChange g w k) (is, why) = absurd cc
   leaves (request.Count g p) (is, why) = absurd cc
   leaves (request.Distinct path g counts) (is, why) = absurd cc
+  leaves (request.Aggregate g stages) (is, why) = absurd cc
   leaves (request.Import stream e) (is, why) = absurd cc
   leaves (request.Transfer how) (is, why) = absurd cc
   leaves (request.Index path) (is, why) = absurd cc

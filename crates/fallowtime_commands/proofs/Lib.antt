@@ -1,4 +1,5 @@
 mod PrintLemmas
+mod AggregateLemmas
 mod AlterLemmas
 pub mod AskLemmas
 mod EarlyLemmas

@@ -15,6 +15,7 @@ no_id f (Ok (answer.Document body)) text h = tt
 no_id f (Ok (answer.Documents bodies)) text h = tt
 no_id f (Ok (answer.Names names)) text h = tt
 no_id f (Ok (answer.Values cs counts)) text h = tt
+no_id f (Ok (answer.NotCalculated e)) text h = tt
 no_id f (Ok answer.Nothing) text h = absurd h
 no_id f (Ok (answer.Id v)) text h = absurd h
 no_id f (Ok (answer.Flag b)) text h = absurd h

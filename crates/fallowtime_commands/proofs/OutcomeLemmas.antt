@@ -74,6 +74,7 @@ module _ (f : Form) (text : List ℕ) where
   of_id (request.FindAndChange q wanted w) v h is = absurd (no_id_found w v is)
   of_id (request.Count q p) v h is = absurd is
   of_id (request.Distinct path q counts) v h is = absurd is
+  of_id (request.Aggregate q stages) v h is = absurd is
   of_id (request.Import stream x) v h is = absurd is
   of_id (request.Transfer how) v h is = absurd is
   of_id (request.Index path) v h is = absurd cc
@@ -99,6 +100,7 @@ module _ (f : Form) (text : List ℕ) where
   of_upserted (request.FindAndChange q wanted w) v h is = absurd (no_upsert_found w v is)
   of_upserted (request.Count q p) v h is = absurd is
   of_upserted (request.Distinct path q counts) v h is = absurd is
+  of_upserted (request.Aggregate q stages) v h is = absurd is
   of_upserted (request.Import stream x) v h is = absurd is
   of_upserted (request.Transfer how) v h is = absurd is
   of_upserted (request.Index path) v h is = absurd cc
@@ -121,4 +123,5 @@ outcome_text f text q (Ok (answer.Values cs counts)) h is = tt
 outcome_text f text q (Ok (answer.Updated m c)) h is = tt
 outcome_text f text q (Ok (answer.NotUpdated i e)) h is = tt
 outcome_text f text q (Ok (answer.NotUpserted e)) h is = tt
+outcome_text f text q (Ok (answer.NotCalculated e)) h is = tt
 outcome_text f text q (Err e) h is = tt

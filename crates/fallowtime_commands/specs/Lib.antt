@@ -1,3 +1,4 @@
+pub mod Aggregating
 pub mod Altering
 pub mod Asking
 pub mod Changing

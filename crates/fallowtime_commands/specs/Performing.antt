@@ -19,6 +19,7 @@ use Rattle.bson_store.specs.Refusals.{as_done, reply_by}
 use Rattle.bson_store.specs.declared.store.Store.{Store}
 use Rattle.fallowtime_commands.specs.declared.answer.Answer.{Answer}
 use Rattle.fallowtime_commands.specs.declared.answer.Answer.TheVariants as answer
+use Rattle.fallowtime_commands.specs.Aggregating.{Aggregates}
 use Rattle.fallowtime_commands.specs.Altering.{Alters, IsAltered}
 use Rattle.fallowtime_commands.specs.Asking.{Counts, CountsAll, Differs, Finds}
 use Rattle.fallowtime_commands.specs.Finding.{FindsAndChanges, IsFound}
@@ -37,8 +38,8 @@ use Rattle.fallowtime_requests.specs.declared.request.Work.TheVariants as work
 
 -- ---- answers
 
--- what a command returns as the store's reply; an update that isn't made of a document, or of a query's equality fields, is
--- refused as a key that can't be set
+-- what a command returns as the store's reply; an update that isn't made of a document, or of a query's equality fields, and a
+-- sum that isn't calculated, are refused as a key that can't be set
 abbrev pub reply_of : Result Answer StoreError → model.Reply
 reply_of (Ok answer.Nothing) = model.done
 reply_of (Ok (answer.Id v)) = model.done
@@ -54,6 +55,7 @@ reply_of (Ok (answer.Updated m c)) = model.number m
 reply_of (Ok (answer.NotUpdated i e)) = model.refused BadKey (Some i)
 reply_of (Ok (answer.Upserted v)) = model.done
 reply_of (Ok (answer.NotUpserted e)) = model.refused BadKey None
+reply_of (Ok (answer.NotCalculated e)) = model.refused BadKey None
 reply_of (Err e) = model.refused e.kind e.document
 
 abbrev pub IsFlag : Answer → Type 0
@@ -80,6 +82,12 @@ AreNames _ = ⊥
 abbrev pub AreValues : Bool → Answer → Type 0
 AreValues counts (answer.Values cs own) = own ≡ counts
 AreValues counts _ = ⊥
+
+-- the documents that a pipeline makes, or why a sum or an average isn't calculated
+abbrev pub IsAggregate : Answer → Type 0
+IsAggregate (answer.Documents bodies) = Unit {0}
+IsAggregate (answer.NotCalculated e) = Unit {0}
+IsAggregate _ = ⊥
 
 -- how many documents were updated or replaced, or of which one that isn't done
 abbrev pub IsUpdate : Answer → Type 0
@@ -117,12 +125,24 @@ IsAnswerTo (request.Find q wanted) a = AreDocuments a
 IsAnswerTo (request.FindAndChange q w k) a = IsFound k a
 IsAnswerTo (request.Count q p) a = IsNumber a
 IsAnswerTo (request.Distinct path q counts) a = AreValues counts a
+IsAnswerTo (request.Aggregate q stages) a = IsAggregate a
 IsAnswerTo (request.Import stream e) a = IsNumber a
 IsAnswerTo (request.Transfer how) a = IsNumber a
 IsAnswerTo (request.Index path) a = a ≡ answer.Nothing
 IsAnswerTo (request.DropIndex path) a = a ≡ answer.Nothing
 IsAnswerTo request.Collections a = AreNames a
 IsAnswerTo request.Check a = IsNumber a
+
+-- a request that changes nothing
+abbrev pub ChangesNothing : Request → Type 0
+ChangesNothing (request.Get id) = Unit {0}
+ChangesNothing (request.Find q wanted) = Unit {0}
+ChangesNothing (request.Count q p) = Unit {0}
+ChangesNothing (request.Distinct path q counts) = Unit {0}
+ChangesNothing (request.Aggregate q stages) = Unit {0}
+ChangesNothing request.Collections = Unit {0}
+ChangesNothing request.Check = Unit {0}
+ChangesNothing _ = ⊥
 
 -- ---- rows
 
@@ -162,6 +182,7 @@ Performs n (request.Find q w) o old new = Finds n (form_of q) w (reply_of o) old
 Performs n (request.FindAndChange q w k) o old new = FindsAndChanges n (form_of q) w k o old new
 Performs n (request.Count q p) o old new = Counts n (form_of q) p (reply_of o) old new
 Performs n (request.Distinct path q counts) o old new = Differs n (form_of q) (path_of path.items) counts o old new
+Performs n (request.Aggregate q stages) o old new = Aggregates n (form_of q) stages.items o old new
 Performs n (request.Import stream e) o old new = Imports e n stream.items o (reply_of o) old new
 Performs n (request.Transfer how) o old new = Transfers n how o old new
 Performs n (request.Index path) o old new = Indexes n (reply_of o) old new

@@ -172,9 +172,9 @@ abbrev pub PrintsUpsert : Mode → Value → Tally → Tally → Result (Unit {0
 PrintsUpsert m id before after (Ok x) = (text : List ℕ) × IsTextOf m id text × Passed before after (line (upsert_text text))
 PrintsUpsert m id before after (Err r) = IsUnwritten before after r.error
 
--- an update isn't made of the query's equality fields: that is refused, by its name
-abbrev pub RefusesUpsert : UpdateError → Tally → Tally → Result (Unit {0}) Refusal → Type 0
-RefusesUpsert e before after result = ((r : Refusal) × (result ≡ Err r) × (r.error ≡ refusal BadKey) × (r.update ≡ Some e)) × (after ≡ before)
+-- an update isn't made of the query's equality fields, or a sum isn't calculated: that is refused, by its name
+abbrev pub Refuses : UpdateError → Tally → Tally → Result (Unit {0}) Refusal → Type 0
+Refuses e before after result = ((r : Refusal) × (result ≡ Err r) × (r.error ≡ refusal BadKey) × (r.update ≡ Some e)) × (after ≡ before)
 
 -- an update isn't made of the document at a place: that is refused, by its name
 abbrev pub RefusesUpdate : ℕ → UpdateError → Tally → Tally → Result (Unit {0}) Refusal → Type 0
@@ -198,7 +198,8 @@ Prints f (answer.Values cs counts) before after result = PrintsValues (mode_of f
 Prints f (answer.Updated m c) before after result = PrintsLine (update_text m c) before after result
 Prints f (answer.NotUpdated i e) before after result = RefusesUpdate i e before after result
 Prints f (answer.Upserted v) before after result = PrintsUpsert (mode_of f) (view v) before after result
-Prints f (answer.NotUpserted e) before after result = RefusesUpsert e before after result
+Prints f (answer.NotUpserted e) before after result = Refuses e before after result
+Prints f (answer.NotCalculated e) before after result = Refuses e before after result
 
 -- what a request returns that only reads
 abbrev pub IsRead : Answer → Type 0
@@ -207,6 +208,7 @@ IsRead (answer.Document body) = Unit {0}
 IsRead (answer.Documents bodies) = Unit {0}
 IsRead (answer.Names names) = Unit {0}
 IsRead (answer.Values cs counts) = Unit {0}
+IsRead (answer.NotCalculated e) = Unit {0}
 IsRead _ = ⊥
 
 -- the text is that of the id of the document that is to go in, or that may, if there is one

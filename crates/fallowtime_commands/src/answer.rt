@@ -3,13 +3,15 @@
 ghost use Rattle.std.specs.Prelude.{◌≡◌, IfOk};
 ghost use Rattle.bson_store.specs.Questions.{as_list, as_names};
 ghost use Rattle.bson_store.specs.Refusals.{as_bytes, as_done, as_flag, as_number, reply_by};
+ghost use Rattle.fallowtime_commands.specs.Aggregating.{returned};
 ghost use Rattle.fallowtime_commands.specs.Asking.{values_by};
-ghost use Rattle.fallowtime_commands.specs.Performing.{IsDocument, IsFlag, IsNumber, AreDocuments, AreNames, AreValues, reply_of};
+ghost use Rattle.fallowtime_commands.specs.Performing.{IsAggregate, IsDocument, IsFlag, IsNumber, AreDocuments, AreNames, AreValues, reply_of};
 ghost use Rattle.fallowtime_commands.specs.declared.answer.Answer.TheVariants.{Id, Nothing, Upserted};
 
 use bson_store::{Bson, StoreError};
 use std::mem::replace;
 use store_distinct::Counted;
+use store_pipeline::PipelineError;
 use store_update::UpdateError;
 
 /// What a command that is done returns.
@@ -41,6 +43,8 @@ pub enum Answer {
     Upserted(Bson),
     /// No document answered, and nothing was changed: why none is made of the query's equality fields.
     NotUpserted(UpdateError),
+    /// Why a sum or an average of a pipeline isn't calculated: `Decimal` or `Overflow`.
+    NotCalculated(UpdateError),
 }
 
 /// A change returns nothing.
@@ -116,4 +120,20 @@ pub fn values(outcome: Result<Vec<Counted>, StoreError>, counts: bool) -> Result
     ensures shape { IfOk result (AreValues counts) }
 {
     Ok(Answer::Values(outcome?, counts))
+}
+
+/// The documents that a pipeline makes, or why it is stopped.
+pub(crate) fn aggregate_of(
+    outcome: Result<Vec<Vec<u8>>, PipelineError>,
+) -> Result<Answer, StoreError>
+    ensures answer { result ≡ returned outcome }
+    ensures shape { IfOk result IsAggregate }
+{
+    match outcome {
+        Ok(bodies) => Ok(Answer::Documents(bodies)),
+        Err(stop) => match stop {
+            PipelineError::Calculation(error) => Ok(Answer::NotCalculated(error)),
+            PipelineError::Document(kind) => Err(StoreError::from(kind)),
+        },
+    }
 }

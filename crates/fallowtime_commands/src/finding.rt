@@ -21,7 +21,6 @@ ghost use Rattle.fallowtime_commands.specs.declared.changing.Unmade.TheVariants.
 
 use crate::answer::Answer;
 use crate::changing::{Unmade, discard, edit_of, outcome_of, push};
-use crate::wanting::left_of_body;
 use bson_store::{Edit, ErrorKind, Store, StoreError, apply_all};
 use fallowtime_requests::{Wanted, Work};
 use sqlite::Alter;
@@ -29,6 +28,7 @@ use std::alloc::{AllocError, Global};
 use std::mem::replace as take;
 use store_asked::find_arranged;
 use store_fields::Fields;
+use store_pipeline::left_of_body;
 use store_question::Question;
 use store_sorted::Arrangement;
 

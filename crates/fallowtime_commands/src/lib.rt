@@ -2,6 +2,7 @@
 //! returns is printed.
 #![tactic(auto)]
 
+mod aggregating;
 mod altering;
 pub mod answer;
 mod asking;

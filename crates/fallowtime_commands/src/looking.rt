@@ -11,6 +11,7 @@ ghost use Rattle.fallowtime_commands.specs.Performing.{IsAnswerTo, Performs};
 ghost use Rattle.fallowtime_commands.specs.Printing.{IsRead, Tells};
 ghost use Rattle.fallowtime_requests.specs.declared.request.Request.TheVariants.{Check};
 
+use crate::aggregating::aggregate_in_pages;
 use crate::answer::{Answer, document, documents, names, number, values};
 use crate::asking::count_in_pages;
 use crate::differing::distinct_in_pages;
@@ -69,6 +70,9 @@ fn ask<P: Pages + Drop>(
         Request::Distinct(path, question, counts) => {
             let outcome = distinct_in_pages(alloc, store, name, question, path.as_slice());
             told(values(outcome, *counts))
+        }
+        Request::Aggregate(question, stages) => {
+            told(aggregate_in_pages(alloc, store, name, question, stages.as_slice()))
         }
         _ => None,
     }

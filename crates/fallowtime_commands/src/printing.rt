@@ -255,8 +255,8 @@ fn print_upsert<O: Sink>(id: &str, output: &mut O) -> Result<(), Refusal>
     }
 }
 
-/// The refusal of an update of the query's equality fields.
-fn refused_upsert(error: UpdateError) -> Refusal
+/// The refusal of an update of the query's equality fields, or of a sum.
+fn refused_by_name(error: UpdateError) -> Refusal
     ensures error { result.error ≡ refusal BadKey }
     ensures update { result.update ≡ Some error }
 {
@@ -309,7 +309,8 @@ fn print_changed<O: Sink>(
 /// Writes an answer: an id, a number, the numbers of an update, the id of what it put in, `true` or `false` on a line,
 /// documents in their form, names one a line. Of an id it is handed the text, which is made before the change is.
 ///
-/// Refused, with nothing written, as the update is that isn't made of a document or of a query's equality fields.
+/// Refused, with nothing written, as the update is that isn't made of a document or of a query's equality fields, or the
+/// sum that isn't calculated.
 /// Refused by ReservedKey if a document has a key below its top that Extended JSON reserves, and then the documents
 /// before it are written; by Writer if a write failed, and by Memory, but not after a change that returns no document.
 /// A prefix may be written then.
@@ -345,6 +346,7 @@ pub(crate) fn print<O: Sink>(
         Answer::Updated(matched, changed) => print_update(*matched, *changed, output),
         Answer::NotUpdated(at, error) => Err(refused_update(*at, *error)),
         Answer::Upserted(_) => print_upsert(id, output),
-        Answer::NotUpserted(error) => Err(refused_upsert(*error)),
+        Answer::NotUpserted(error) => Err(refused_by_name(*error)),
+        Answer::NotCalculated(error) => Err(refused_by_name(*error)),
     }
 }

@@ -17,7 +17,7 @@ pub struct Refusal {
     /// The refusal of the store, of a device, or out of memory.
     pub error: StoreError,
     /// Why an update or a replacement isn't made of a document: then `error` has its place, and is BadKey, which the
-    /// store has for a key that can't be set.
+    /// store has for a key that can't be set. Or why a sum isn't calculated, and then it has no place.
     pub update: Option<UpdateError>,
     /// The line of the input, counted from 1, whose document is refused.
     pub line: Option<u64>,

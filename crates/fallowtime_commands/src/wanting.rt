@@ -3,55 +3,24 @@
 ghost use Rattle.std.specs.Prelude.{IfOk, map};
 ghost use Rattle.bson_store.specs.Calls.{KeepsIndexes, Relates, store_state};
 ghost use Rattle.store_asked.specs.Asking.{AskedFrom};
-ghost use Rattle.store_fields.specs.Views.{left_of};
 ghost use Rattle.store_asked.specs.Reads.{Reads, Stays};
 ghost use Rattle.store_model.specs.Reading.{Documents};
 ghost use Rattle.store_question.specs.Reads.{form_of};
-ghost use Rattle.store_sorted.specs.Bodies.{AreBodies, IsBody, OfBody};
+ghost use Rattle.store_sorted.specs.Bodies.{AreBodies};
 ghost use Rattle.store_table.specs.Crash.{AddsNothing};
 ghost use Rattle.store_table.specs.Moves.{WasOpen};
 ghost use Rattle.fallowtime_commands.specs.Asking.{AreWanted};
 ghost use Rattle.fallowtime_requests.specs.Fields.{left_by};
 
-use bson_raw::RawDocument;
 use bson_store::{Store, StoreError};
 use fallowtime_requests::Wanted;
 use sqlite::Alter;
 use sqlite_pages::Pages;
 use std::alloc::{AllocError, Global};
 use store_asked::{ReadOnlyStore, find_arranged, look_up_arranged};
-use store_fields::{Fields, project};
+use store_fields::Fields;
+use store_pipeline::left_of_each;
 use store_question::Question;
-
-/// The body of what is left of the document that has this body.
-pub(crate) fn left_of_body(
-    alloc: Global,
-    body: &[u8],
-    fields: &Fields,
-) -> Result<Vec<u8>, AllocError>
-    ensures { OfBody body.now (λ d. IfOk result (λ left. IsBody left.items (left_of fields.now d))) }
-{
-    let Ok(document) = RawDocument::from_bytes(body) else {
-        return Ok(Vec::new(alloc));
-    };
-    project(alloc, document, fields)
-}
-
-/// The bodies of what is left of each document.
-fn left_of_each(
-    alloc: Global,
-    bodies: &[Vec<u8>],
-    fields: &Fields,
-) -> Result<Vec<Vec<u8>>, AllocError>
-    ensures { (ds : Documents) → AreBodies bodies.now ds
-        → IfOk result (λ left. AreBodies left.items (map (left_of fields.now) ds)) }
-{
-    let mut left = Vec::new(alloc);
-    for body in bodies {
-        left.push(left_of_body(alloc, body.as_slice(), fields)?)?;
-    }
-    Ok(left)
-}
 
 /// The bodies of what is wanted of each document: of the fields that are given, or of all.
 pub fn left_by(

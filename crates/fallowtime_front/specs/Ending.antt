@@ -27,6 +27,7 @@ name_of_kind (ended.Words (unread.Equalities e)) = codes "query"
 name_of_kind (ended.Words (unread.Update e)) = codes "update"
 name_of_kind (ended.Words unread.Options) = codes "options"
 name_of_kind (ended.Words unread.Fields) = codes "fields"
+name_of_kind (ended.Words unread.Stages) = codes "stages"
 name_of_kind (ended.Words _) = codes "usage"
 name_of_kind (ended.Lines (stop.Line n fault)) = codes "line"
 name_of_kind (ended.Lines _) = []

@@ -64,6 +64,7 @@ impl Ended {
             Ended::Words(Unread::Update(_)) => "update",
             Ended::Words(Unread::Options) => "options",
             Ended::Words(Unread::Fields) => "fields",
+            Ended::Words(Unread::Stages) => "stages",
             Ended::Words(_) => "usage",
             Ended::Lines(LineStop::Line(_, _)) | Ended::Line(_, _) => "line",
             Ended::Refused(refusal) => refusal.name(),

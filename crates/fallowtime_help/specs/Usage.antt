@@ -4,7 +4,7 @@ use Rattle.fallowtime_words.specs.Commands.{allowed, arguments, command_name, pl
 use Rattle.fallowtime_words.specs.declared.command.Command.{Command}
 use Rattle.fallowtime_words.specs.declared.table.Allowed.{Allowed}
 use Rattle.fallowtime_words.specs.declared.table.Argument.{Argument}
-use Rattle.fallowtime_words.specs.declared.table.Argument.TheVariants.{Collection, Document, Id, Key, Value, Query, Selection, Update, Options, Documents, IndexPath, NewName, File, Folder}
+use Rattle.fallowtime_words.specs.declared.table.Argument.TheVariants.{Collection, Document, Id, Key, Value, Query, Selection, Update, Options, Pipeline, Documents, IndexPath, NewName, File, Folder}
 use Rattle.fallowtime_words.specs.declared.table.Place.{Place}
 use Rattle.fallowtime_words.specs.declared.table.Place.TheVariants.{Both, CommandLine, Session, Alone, Script}
 
@@ -17,6 +17,7 @@ argument_text Value = codes " VALUE"
 argument_text Query = codes " [QUERY]"
 argument_text Selection = codes " QUERY"
 argument_text Update = codes " UPDATE"
+argument_text Pipeline = codes " PIPELINE"
 argument_text Options = codes ""
 argument_text Documents = codes " [INPUT]"
 argument_text IndexPath = codes " PATH"

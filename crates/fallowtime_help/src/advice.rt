@@ -20,7 +20,7 @@ const NOT_FOUND: &str = "NotFound";
 pub(crate) const OBJECT_ID: &str = "this ID is a text; an ObjectId is written '{\"$oid\":\"..\"}'";
 
 /// What helps after the commonest refusals; those of a FILE that can't be had say it themselves.
-pub(crate) const ADVICE: [Advice; 15] = [
+pub(crate) const ADVICE: [Advice; 16] = [
     Advice {
         kind: NOT_FOUND,
         text: "an ID is 42 for the number and '\"42\"' for the text; fallowtime FILE find COLL shows those that there are",
@@ -64,6 +64,10 @@ pub(crate) const ADVICE: [Advice; 15] = [
     Advice {
         kind: "line",
         text: "each line is a whole document, {..}: jq -c . makes such lines of documents over several, jq -c '.[]' of an array; BSON goes in without --json; what is packed is unpacked first, a byte order mark goes, and of a table (CSV) lines are made first",
+    },
+    Advice {
+        kind: "stages",
+        text: "a pipeline is an array of stages, in quotes of the shell: '[{\"$match\":{\"gift\":true}},{\"$group\":{\"_id\":\"$to.city\",\"sum\":{\"$sum\":\"$price\"}}}]'",
     },
     Advice {
         kind: "update",

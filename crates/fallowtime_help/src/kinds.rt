@@ -45,6 +45,7 @@ pub(crate) enum Item {
     Exists,
     Disk,
     Query,
+    Stages,
     Update,
     Words,
     Through,
@@ -65,7 +66,7 @@ pub(crate) struct Kind {
 }
 
 /// The kinds, in the order of the page.
-pub(crate) const KINDS: [Kind; 57] = [
+pub(crate) const KINDS: [Kind; 58] = [
     Kind {
         name: "usage",
         items: &[Item::Usage],
@@ -261,6 +262,10 @@ pub(crate) const KINDS: [Kind; 57] = [
     Kind {
         name: "query",
         items: &[Item::Query],
+    },
+    Kind {
+        name: "stages",
+        items: &[Item::Stages],
     },
     Kind {
         name: "update",
@@ -512,6 +517,12 @@ const QUERY: &str =
   one, and with `--upsert` it asks for two values at one path, or at one inside the other.
 ";
 
+const STAGES: &str =
+    "  `words: stages`: PIPELINE is no array of stages: it is no JSON, an object in it has a key twice, one of its items is
+  no object of one member, there is no stage of that name, or a stage takes no such value. A path is `\"$a.b\"`, with its
+  `$` and without empty keys, and the name of a field has neither a `$` in front nor a dot.
+";
+
 const UPDATE: &str =
     "  `words: update`: UPDATE is no update of the language, for the reason that follows: it is no JSON from a byte on, or no
   object, a key comes twice, there is no operator of that name, an operator has no object of paths, or an operator isn't
@@ -567,6 +578,7 @@ fn text_of_further(item: Item) -> &'static str {
         Item::Exists => EXISTS,
         Item::Disk => DISK,
         Item::Query => QUERY,
+        Item::Stages => STAGES,
         Item::Update => UPDATE,
         Item::Through => THROUGH,
         Item::NotANumber => NOT_A_NUMBER,

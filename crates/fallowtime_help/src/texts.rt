@@ -392,6 +392,33 @@ On a line of a session the options are an object behind the QUERY:
 May be refused: NoFile, BadName, ReservedKey; words: query.
 ";
 
+const AGGREGATE: &str = "
+Prints the documents that a PIPELINE makes of those of the collection COLL: an
+array of stages, each of which takes what the one in front of it made.
+
+  {\"$match\":QUERY}     those that answer the query, which is that of find
+  {\"$sort\":KEYS}       all, in an order: {\"price\":-1,\"name\":1}
+  {\"$skip\":N}          all but the first N
+  {\"$limit\":N}         the first N
+  {\"$project\":FIELDS}  of each these fields: {\"name\":1,\"_id\":0}
+  {\"$count\":\"NAME\"}    their number
+  {\"$unwind\":\"$PATH\"}  one for each item of an array
+  {\"$group\":{\"_id\":KEY,\"NAME\":{\"$sum\":VALUE}}}
+                       one for each KEY, with fields by $sum, $avg, $min, $max,
+                       $first, $last, $push, $addToSet or $count
+
+KEY and VALUE are \"$PATH\", what a document has there, or a number, a text, true,
+false or null.
+
+  --wait SECONDS   waits so long if another process has FILE; else 5
+
+    fallowtime shop.db aggregate orders '[{\"$unwind\":\"$tags\"},{\"$count\":\"tags\"}]'
+    fallowtime shop.db aggregate orders '[{\"$group\":{\"_id\":\"$to\",\"n\":{\"$sum\":1}}}]'
+
+May be refused: NoFile, BadName, ReservedKey, Decimal, Overflow, TooDeep,
+TooLong, Nul; words: query, stages.
+";
+
 const IMPORT: &str = "
 Puts the documents of the file INPUT, or of standard input, into the collection
 COLL, all or none, and prints their number. They are BSON, one after the other,
@@ -627,6 +654,7 @@ pub(crate) fn text_of(command: Command) -> &'static str {
         Command::Find => FIND,
         Command::Count => COUNT,
         Command::Distinct => DISTINCT,
+        Command::Aggregate => AGGREGATE,
         Command::Import => IMPORT,
         Command::Export => EXPORT,
         Command::Drop => DROP,

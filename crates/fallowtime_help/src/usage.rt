@@ -18,6 +18,7 @@ fn text_of(argument: Argument) -> &'static str
         Argument::Query => " [QUERY]",
         Argument::Selection => " QUERY",
         Argument::Update => " UPDATE",
+        Argument::Pipeline => " PIPELINE",
         Argument::Options => "",
         Argument::Documents => " [INPUT]",
         Argument::Key | Argument::IndexPath | Argument::File => " PATH",

@@ -69,7 +69,8 @@ pub(crate) fn perform_drafted<S: Alter + Drop>(
         Request::Distinct(path, question, counts) => {
             as_reason(distinct(alloc, store, edits, name, path, question, *counts))
         }
-        Request::Import(_, _)
+        Request::Aggregate(_, _)
+        | Request::Import(_, _)
         | Request::Transfer(_)
         | Request::Index(_)
         | Request::DropIndex(_)

@@ -92,6 +92,7 @@ TellsDocuments space size single bodies old new m = (b : Batch) × BatchTold sin
 
 abbrev pub TellsFound : List ℕ → ℕ → Bool → Result Answer StoreError → List Wait → List Wait → Members → Type 0
 TellsFound space size single (Ok (answer.Documents bodies)) old new m = TellsDocuments space size single (bytes_of_each bodies.items) old new m
+TellsFound space size single (Ok (answer.NotCalculated e)) old new m = (new ≡ old) × (m ≡ told.refused (update_name e) (update_code e))
 TellsFound space size single (Ok a) old new m = ⊥
 TellsFound space size single (Err e) old new m = (new ≡ old) × (m ≡ told.refused (kind_name e.kind) (code_of e.kind))
 

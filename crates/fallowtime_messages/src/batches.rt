@@ -12,9 +12,9 @@ use crate::cursors::Cursors;
 use crate::telling::{items_of_each, tell};
 use bson_model::{Array, Bson, Document};
 use bson_store::StoreError;
-use fallowtime_commands::Answer;
+use fallowtime_commands::{Answer, update_name};
 use fallowtime_plans::Way;
-use fallowtime_statements::{Code, code_of};
+use fallowtime_statements::{Code, code_of, update_code};
 use std::alloc::{AllocError, Global};
 use std::mem::replace;
 
@@ -66,6 +66,10 @@ fn tell_found(
         Ok(Answer::Documents(bodies)) => {
             let bodies = replace(bodies, Vec::new(alloc));
             tell_documents(alloc, cursors, space, size, single, bodies)
+        }
+        Ok(Answer::NotCalculated(error)) => {
+            let why = String::from_str(alloc, update_name(*error))?;
+            refused(alloc, why, update_code(*error))
         }
         Ok(_) => Err(AllocError),
         Err(error) => {

@@ -19,6 +19,7 @@ use Rattle.fallowtime_statements.specs.Finding.{FindsIn}
 use Rattle.fallowtime_plans.specs.Indexing.{ArePlainIndexes, IsToGo}
 use Rattle.fallowtime_statements.specs.Lines.{IsCount, IsFind, IsLine, IsPart, IsTruth, IsWhole, line_of_one, line_of_two}
 use Rattle.fallowtime_statements.specs.Modifying.{IsDistinct, IsFindAndModify, IsUpsert}
+use Rattle.fallowtime_statements.specs.Staging.{IsAggregate}
 use Rattle.fallowtime_plans.specs.Told as told
 use Rattle.fallowtime_plans.specs.declared.asked.Plan.{Plan}
 use Rattle.fallowtime_plans.specs.declared.asked.Plan.TheVariants as plan
@@ -79,6 +80,10 @@ AsksGroup db ms space id skip most s =
 abbrev pub AsksFinding : List ℕ → Members → List ℕ → Statement → Type 0
 AsksFinding db ms space s = (n : List ℕ) × (parts : Members) × IsOf db (codes "aggregate") ms n × FindsIn (look_up (codes "pipeline") ms) parts × (look_up (codes "out") parts ≡ None) × IsFind parts n s × (space ≡ namespace db n)
 
+-- any pipeline is the line of `aggregate`
+abbrev pub AsksStages : List ℕ → Members → List ℕ → Statement → Type 0
+AsksStages db ms space s = (n : List ℕ) × IsOf db (codes "aggregate") ms n × IsAggregate (look_up (codes "pipeline") ms) n s × (space ≡ namespace db n)
+
 -- what is found goes into a collection: a count of that, and the line of `find`
 abbrev pub AreOut : Members → List ℕ → List ℕ → List Statement → Type 0
 AreOut parts n target (count ∷ find ∷ []) = IsCount None target count × IsFind parts n find
@@ -111,7 +116,7 @@ AsksBy name.Insert db ms ss (plan.Inserts n ds ordered) = IsOf db (codes "insert
 AsksBy name.Update db ms ss (plan.Writes list ordered changed) = AsksWrites IsChangeOf db (codes "update") (codes "updates") ms ss list.items ordered × (changed ≡ true)
 AsksBy name.Delete db ms ss (plan.Writes list ordered changed) = AsksWrites IsRemovalOf db (codes "delete") (codes "deletes") ms ss list.items ordered × (changed ≡ false)
 AsksBy name.Aggregate db ms ss (plan.One s (way.Grouped space id skip most)) = AsksGroup db ms (string_bytes space) (view id) skip most s
-AsksBy name.Aggregate db ms ss (plan.One s (way.Found space size single)) = AsksFinding db ms (string_bytes space) s × IsSizeIn (look_up (codes "cursor") ms) size × (single ≡ false)
+AsksBy name.Aggregate db ms ss (plan.One s (way.Found space size single)) = (AsksFinding db ms (string_bytes space) s ⊎ AsksStages db ms (string_bytes space) s) × IsSizeIn (look_up (codes "cursor") ms) size × (single ≡ false)
 AsksBy name.Aggregate db ms ss (plan.Outs target space list) = AsksOut db ms (string_bytes target) (string_bytes space) list.items
 AsksBy name.FindAndModify db ms ss (plan.One s (way.Modified removes)) =
     (n : List ℕ) × IsOf db (codes "findAndModify") ms n × IsTruth false (look_up (codes "remove") ms) removes

@@ -17,11 +17,11 @@ use crate::lists::listed;
 use crate::spaces::{collection_of, namespace};
 use crate::told::{build_info, databases, hello, ping};
 use bson_message::Sequence;
-use bson_model::{Bson, Document};
+use bson_model::Document;
 use fallowtime_statements::{
     Code, Fault, Name, allowed, changes_of, count_by, count_statement, counting_in,
-    distinct_statement, find_statement, finding_in, first_key, modify_statement, name_of,
-    operand_of, part_in, refuse, removals_of, truth_in, upsert_statements, value_in, whole_in,
+    distinct_statement, find_statement, finding_in, first_key, modify_statement, name_of, part_in,
+    pipeline_statement, refuse, removals_of, truth_in, upsert_statements, value_in, whole_in,
 };
 use fallowtime_texts::IdMaker;
 use std::alloc::Global;
@@ -152,18 +152,33 @@ fn find_by_pipeline(
     }
 }
 
-/// Whether the last stage of a pipeline is a group.
-fn is_grouped(command: &Document) -> bool {
-    match value_in(command, "pipeline") {
-        Some(Bson::Array(stages)) => match stages.as_slice().last() {
-            Some(stage) => operand_of(stage, "$group").is_some(),
-            None => false,
-        },
-        _ => false,
-    }
+/// What `aggregate` asks, whatever stages its pipeline has.
+fn run_pipeline(
+    alloc: Global,
+    maker: &mut IdMaker,
+    database: &str,
+    command: &Document,
+) -> Result<Plan, Fault>
+    ensures { IfOk result (AsksBy names.Aggregate database.now (content command.now) []) }
+{
+    let name = collection_of(alloc, database, command, "aggregate")?;
+    let space = namespace(alloc, database, name)?;
+    let size = size_of_cursor(alloc, command)?;
+    let statement = pipeline_statement(alloc, maker, command, name)?;
+    Ok(Plan::One(statement, Way::Found(space, size, false)))
 }
 
-/// What `aggregate` asks: a pipeline that ends with a group counts, and any other finds.
+/// Whether a pipeline is one by which drivers count.
+fn counts(alloc: Global, command: &Document) -> bool {
+    counting_in(alloc, command).is_ok()
+}
+
+/// Whether a pipeline is one `find`.
+fn finds(alloc: Global, command: &Document) -> bool {
+    finding_in(alloc, command).is_ok()
+}
+
+/// What `aggregate` asks: a count or a `find`, if its pipeline is one, which holds no more documents than it returns.
 fn aggregate(
     alloc: Global,
     maker: &mut IdMaker,
@@ -172,11 +187,13 @@ fn aggregate(
 ) -> Result<Plan, Fault>
     ensures { IfOk result (AsksBy names.Aggregate database.now (content command.now) []) }
 {
-    if is_grouped(command) {
-        count_by_pipeline(alloc, maker, database, command)
-    } else {
-        find_by_pipeline(alloc, maker, database, command)
+    if counts(alloc, command) {
+        return count_by_pipeline(alloc, maker, database, command);
     }
+    if finds(alloc, command) {
+        return find_by_pipeline(alloc, maker, database, command);
+    }
+    run_pipeline(alloc, maker, database, command)
 }
 
 /// What `findAndModify` with `upsert` asks. `BadValue` if it removes.

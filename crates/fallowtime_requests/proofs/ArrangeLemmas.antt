@@ -6,7 +6,8 @@ use Rattle.json.specs.Json.{Items, Json, Members, member}
 use Rattle.json.specs.Json as json
 use Rattle.json.specs.Value.{items_view, members_view, value_view}
 use Rattle.json.specs.declared.value.Value.{Value as Tree}
-use Rattle.fallowtime_requests.specs.Arranging.{AsksCounted, AsksWanted, FindsDocuments, IsCount, Plan, PutsOption, PutsOptions, ReadsLine, ReadsThree, ReadsTwo, StopsOptions, StopsWith, counts_of, plan_of, whole}
+use Rattle.fallowtime_requests.specs.Arranging.{AsksCounted, AsksWanted, FindsDocuments, Plan, PutsOption, PutsOptions, ReadsLine, ReadsThree, ReadsTwo, StopsOptions, StopsWith, counts_of, plan_of, whole}
+use Rattle.fallowtime_requests.specs.Orders.{IsCount}
 use Rattle.fallowtime_requests.specs.Fields.{left_by, left_where}
 use Rattle.fallowtime_requests.specs.Inputs.{Given, trees}
 use Rattle.fallowtime_requests.specs.Reading.{Reads}
@@ -23,7 +24,7 @@ use Rattle.fallowtime_words.specs.declared.command.Command.{Command}
 use Rattle.fallowtime_words.specs.declared.command.Command.TheVariants as command
 use Rattle.fallowtime_requests.proofs.OptionLemmas.{Entry}
 
-one_count : (j : Json) (n m : ℕ) → IsCount j n → IsCount j m → n ≡ m
+pub one_count : (j : Json) (n m : ℕ) → IsCount j n → IsCount j m → n ≡ m
 one_count (json.number t) n m e g = sym e.1 ∙ g.1
 one_count json.null n m e g = absurd e
 one_count (json.boolean b) n m e g = absurd e

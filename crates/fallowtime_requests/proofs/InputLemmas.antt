@@ -8,7 +8,7 @@ use Rattle.json.specs.declared.value.Value.{Value as Tree}
 use Rattle.fallowtime_texts.specs.declared.made.IdMaker.{IdMaker}
 use Rattle.fallowtime_words.specs.Commands.{arguments}
 use Rattle.fallowtime_words.specs.declared.command.Command.{Command}
-use Rattle.fallowtime_words.specs.declared.command.Command.TheVariants.{Insert, Put, Replace, Get, Set, Unset, Update, ReplaceOne, Delete, FindAndUpdate, FindAndReplace, FindAndDelete, Remove, Find, Count, Distinct, Import, Export, Drop, Rename, Copy, Collections, Check, Backup, Apply, Index, DropIndex, Version, ImportAll, ExportAll, Edit}
+use Rattle.fallowtime_words.specs.declared.command.Command.TheVariants.{Insert, Put, Replace, Get, Set, Unset, Update, ReplaceOne, Delete, FindAndUpdate, FindAndReplace, FindAndDelete, Remove, Find, Count, Distinct, Aggregate, Import, Export, Drop, Rename, Copy, Collections, Check, Backup, Apply, Index, DropIndex, Version, ImportAll, ExportAll, Edit}
 use Rattle.fallowtime_words.specs.declared.table.Argument.{Argument}
 use Rattle.fallowtime_requests.specs.Inputs.{Given, seen, texts, tree, trees, word}
 use Rattle.fallowtime_requests.specs.Reading.{AsMany, Reads, beyond}
@@ -110,6 +110,7 @@ few Remove = omega arith
 few Find = omega arith
 few Count = omega arith
 few Distinct = omega arith
+few Aggregate = omega arith
 few Import = omega arith
 few Export = omega arith
 few Drop = omega arith
@@ -155,6 +156,7 @@ too_many m Remove gs more = inl (not_as_many Remove gs more, refl)
 too_many m Find gs more = inl (not_as_many Find gs more, refl)
 too_many m Count gs more = inl (not_as_many Count gs more, refl)
 too_many m Distinct gs more = inl (not_as_many Distinct gs more, refl)
+too_many m Aggregate gs more = inl (not_as_many Aggregate gs more, refl)
 too_many m Import gs more = inl (not_as_many Import gs more, refl)
 too_many m Export gs more = inl (not_as_many Export gs more, refl)
 too_many m Drop gs more = inl (not_as_many Drop gs more, refl)

@@ -7,6 +7,10 @@ mod KeyLemmas
 mod LineLemmas
 mod OptionLemmas
 mod ArrangeLemmas
+mod GroupLemmas
+mod StageLemmas
+mod UnwindLemmas
+mod OperandLemmas
 mod OwnIdLemmas
 mod PlainLemmas
 mod QueryLemmas

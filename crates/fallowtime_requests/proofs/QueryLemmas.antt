@@ -12,7 +12,7 @@ abbrev pub IsFor : Given → Question → Type 0
 IsFor g q = (a : Asked) × IsAsked g a × StandsFor q a
 
 -- what reading gave, if it gave a question
-given : (q : Question) (r : Result Asked Fault) → Gives StandsFor (Ok q) r → (a : Asked) × (r ≡ Ok a) × StandsFor q a
+pub given : (q : Question) (r : Result Asked Fault) → Gives StandsFor (Ok q) r → (a : Asked) × (r ≡ Ok a) × StandsFor q a
 given q (Ok a) h = (a, refl, h)
 given q (Err f) h = absurd h
 

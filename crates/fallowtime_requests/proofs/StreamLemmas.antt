@@ -34,7 +34,7 @@ none_yet trees m stream e = record {
 }
 
 -- the trees from a place on
-from_place : (trees : Trees) (i : ℕ) (t : Value Global) → i < length trees → get_or trees i t ≡ t → drop i trees ≡ t ∷ drop (suc i) trees
+pub from_place : (trees : Trees) (i : ℕ) (t : Value Global) → i < length trees → get_or trees i t ≡ t → drop i trees ≡ t ∷ drop (suc i) trees
 from_place [] i t within at = absurd (omega (arith, within))
 from_place (u ∷ us) zero t within at = ap (λ v. v ∷ us) at
 from_place (u ∷ us) (suc i) t within at = from_place us i t (omega (arith, within)) at

@@ -1,5 +1,5 @@
 -- What a change by query puts in if no document answers.
-use Rattle.std.proofs.Common.{◌≡◌, ◌⊎◌, inl, inr, ◌↔◌, ◌≤◌, List, [], ◌∷◌, Bool, true, false, not, Option, Some, None, Result, Ok, Err, String, Global, length, get_or, refl, sym, ap, subst, ◌∙◌, arith}
+use Rattle.std.proofs.Common.{◌≡◌, ◌⊎◌, inl, inr, ◌↔◌, ◌≤◌, List, [], ◌∷◌, Bool, true, false, not, Option, Some, None, Result, Ok, Err, String, Global, IfErr, length, get_or, refl, sym, ap, subst, ◌∙◌, arith}
 use Rattle.std.specs.Prelude.{IsSomeAnd, IsTrue, MatchOption, MatchResult, map, option_map, string_bytes}
 use Rattle.bson_base.specs.Value.{Value, Members, has_key, member}
 use Rattle.bson_meaning.specs.Meaning.{Same}
@@ -19,13 +19,16 @@ use Rattle.store_update.specs.declared.error.UpdateError.{UpdateError}
 use Rattle.store_update.specs.declared.error.UpdateError.TheVariants.{Id, Memory}
 use Rattle.fallowtime_texts.proofs.IdLemmas.{has_id}
 use Rattle.fallowtime_texts.specs.declared.made.IdMaker.{IdMaker}
-use Rattle.fallowtime_requests.specs.Inputs.{Given, texts, word}
-use Rattle.fallowtime_requests.specs.Upserts.{HasOtherId, IsByQuery, Makes, StopsByWords, StopsFixed, Takes, Upserting, UpsertsByWords, base, fronted, made_by, query_in, upserted_query}
+use Rattle.fallowtime_requests.specs.Inputs.{Given, texts, tree, word}
+use Rattle.fallowtime_requests.specs.Upserts.{HasOtherId, IsByQuery, IsFixed, IsOtherwise, Makes, StopsByWords, StopsFixed, Takes, Upserting, UpsertsByWords, base, fronted, made_by, query_in, upserted_query}
+use Rattle.fallowtime_requests.specs.Reading.{KeepsMaker}
 use Rattle.fallowtime_requests.specs.declared.reading.Question.{Question as Asking}
+use Rattle.fallowtime_requests.specs.declared.request.Otherwise.{Otherwise}
 use Rattle.fallowtime_requests.specs.declared.request.Request.{Request}
 use Rattle.fallowtime_requests.specs.declared.request.Request.TheVariants as request
 use Rattle.fallowtime_requests.specs.declared.request.Work.{Work}
 use Rattle.fallowtime_requests.specs.declared.stop.Stop.{Stop}
+use Rattle.fallowtime_requests.specs.declared.stop.Stop.TheVariants as stopped
 use Rattle.fallowtime_words.specs.declared.words.Words.{Words as Wording}
 use Rattle.store_update_read.specs.Outcome.{plans_of}
 use Rattle.store_update_read.specs.Seed.{Fixed, fixed_by}
@@ -100,6 +103,20 @@ unmade f w e (inl h) other = h
 unmade f w e (inr memory) other = absurd (other memory)
 
 -- ---- a request
+
+memory_stops : (g : Given) → StopsFixed g stopped.Memory
+memory_stops (word w) = tt
+memory_stops (tree j) = tt
+
+-- what is made of what a query fixes, or there is no memory for it
+module _ (m n : IdMaker) (f : Fixed) (w : Work) where
+  pub otherwise_made : (g : Given) (r : Result Otherwise Stop) → IsFixed g f → MatchResult r (IsOtherwise m n f w) (λ s. s ≡ stopped.Memory) → MatchResult r (λ o. (x : Fixed) × IsFixed g x × IsOtherwise m n x w o) (StopsFixed g)
+  otherwise_made g (Ok o) is h = (f, is, h)
+  otherwise_made g (Err s) is h = subst (StopsFixed g) (sym h) (memory_stops g)
+
+  pub otherwise_keeps : (r : Result Otherwise Stop) → MatchResult r (IsOtherwise m n f w) (λ s. s ≡ stopped.Memory) → IfErr r (KeepsMaker m n)
+  otherwise_keeps (Ok o) h = tt
+  otherwise_keeps (Err s) h = subst (KeepsMaker m n) (sym h) tt
 
 -- any other request stays
 pub stays : (m : IdMaker) (g : Given) (r : Request) → ((q : Question) (w : Work) (many : Bool) → r ≡ request.Change q w many → ⊥) → Upserting m m g r r

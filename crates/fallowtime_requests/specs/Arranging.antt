@@ -1,6 +1,6 @@
 -- What `find` returns of documents, as words and as JSON say it: their order, which part of them, and which fields; and so
 -- of the one that is found and changed. What the values of a line ask for, with such options and those of changes by query.
-use Rattle.std.specs.Prelude.{◌≡◌, ◌⊎◌, ℕ, List, [], ◌∷◌, ◌++◌, codes, Bool, true, false, ◌&&◌, ◌||◌, if◌then◌else◌, Option, Some, None, Result, Ok, Err, unwrap_or, option_map, option_and_then}
+use Rattle.std.specs.Prelude.{◌≡◌, ◌⊎◌, ℕ, List, [], ◌∷◌, codes, Bool, true, false, ◌&&◌, ◌||◌, if◌then◌else◌, Option, Some, None, Result, Ok, Err, unwrap_or, option_map}
 use Rattle.std.specs.Borrow.{Bor}
 use Rattle.std.specs.Str.{bytes_eq}
 use Rattle.bson_base.specs.Value.{Members as Document}
@@ -8,17 +8,17 @@ use Rattle.json.specs.Json.{Json, Items, no_items, item, Members, no_members, me
 use Rattle.json.specs.Json as json
 use Rattle.fallowtime_texts.specs.declared.made.IdMaker.{IdMaker}
 use Rattle.fallowtime_words.specs.Commands.{allowed}
-use Rattle.fallowtime_words.specs.Options.{IsNumber}
 use Rattle.fallowtime_words.specs.declared.command.Command.{Command}
 use Rattle.fallowtime_words.specs.declared.command.Command.TheVariants as command
 use Rattle.store_sorted.specs.Bodies.{keys_of}
 use Rattle.store_sorted.specs.Order.{Key}
-use Rattle.store_sorted.specs.Texts.{ReadsKeys, key_by}
+use Rattle.store_sorted.specs.Texts.{ReadsKeys}
 use Rattle.store_sorted.specs.declared.arrangement.Arrangement.{Arrangement}
 use Rattle.fallowtime_words.specs.declared.words.Words.{Words as Wording}
 use Rattle.fallowtime_requests.specs.Fields.{CanName, IsOfTexts, Marked, TextsNameNone, left_by, left_where, marked_under, paths_given}
 use Rattle.fallowtime_requests.specs.Along.{AlongUnless, StopsUnless, literal_in}
 use Rattle.fallowtime_requests.specs.Inputs.{Given, boolean_of, flag_of, tree, trees}
+use Rattle.fallowtime_requests.specs.Orders.{IsCount, keys_under}
 use Rattle.fallowtime_requests.specs.Plain.{are_plainly, have_plain_paths}
 use Rattle.fallowtime_requests.specs.Reading.{Reads}
 use Rattle.fallowtime_requests.specs.Requests.{Asks, with_counts, with_drops, with_existing, with_many}
@@ -106,28 +106,6 @@ abbrev pub StopsWanted : Wording → Stop → Type 0
 StopsWanted w s = StopsSort (text_in w.sort) s ⊎ (SortsPlainly true (text_in w.sort) × StopsFields (text_in w.fields) (text_in w.without) s)
 
 -- ---- JSON
-
--- whether the greatest comes first: 1 says that the least does, -1 that the greatest does
-abbrev pub turn_in : Json → Option Bool
-turn_in (json.number t) = if bytes_eq t (codes "1") then Some false else if bytes_eq t (codes "-1") then Some true else None
-turn_in j = None
-
-abbrev pub key_in : List ℕ → Json → Option Key
-key_in path j = option_map (key_by path) (turn_in j)
-
--- these keys, and behind them one for each member, in their order
-abbrev pub keys_behind : List Key → Members → Option (List Key)
-keys_behind ks no_members = Some ks
-keys_behind ks (member path j ms) = option_and_then (λ k. keys_behind (ks ++ k ∷ []) ms) (key_in path j)
-
-abbrev pub keys_under : Json → Option (List Key)
-keys_under (json.object ms) = keys_behind [] ms
-keys_under j = None
-
--- decimal digits alone, and the number that they write
-abbrev pub IsCount : Json → ℕ → Type 0
-IsCount (json.number t) n = IsNumber t n
-IsCount j n = ⊥
 
 -- whether a document is returned as it is after the change, of a command that changes it
 abbrev pub after_in : Bool → Json → Option Bool

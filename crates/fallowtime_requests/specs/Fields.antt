@@ -1,5 +1,5 @@
 -- Which fields of documents `find` returns, as words and as JSON say it.
-use Rattle.std.specs.Prelude.{◌≡◌, ℕ, List, [], ◌∷◌, ◌++◌, codes, Bool, true, false, not, if◌then◌else◌, Option, Some, None, option_and_then}
+use Rattle.std.specs.Prelude.{◌≡◌, ◌≢◌, ℕ, List, [], ◌∷◌, ◌++◌, codes, Bool, true, false, not, if◌then◌else◌, Option, Some, None, option_and_then}
 use Rattle.std.specs.Str.{bytes_eq}
 use Rattle.json.specs.Json.{Json, Members, no_members, member}
 use Rattle.json.specs.Json as json
@@ -39,6 +39,11 @@ pub record CanName (ps qs : List Path) : Type 0 where
 -- the fields leave of each document what the paths say
 abbrev pub IsWhere : List Path → List Path → Option Fields → Type 0
 IsWhere ps qs f = (d : Document) → left_by f d ≡ left_where ps qs d
+
+-- there are no fields where no path is named, as all stay
+abbrev pub AreNone : List Path → List Path → Option Fields → Type 0
+AreNone [] [] f = f ≡ None
+AreNone ps qs f = f ≢ None
 
 -- ---- words
 
@@ -88,7 +93,7 @@ marked_under j = None
 
 -- an object asks for these fields
 abbrev pub FieldsAre : Json → Option Fields → Type 0
-FieldsAre j f = (m : Marked) × (marked_under j ≡ Some m) × CanName m.kept m.left_out × IsWhere m.kept m.left_out f
+FieldsAre j f = (m : Marked) × (marked_under j ≡ Some m) × CanName m.kept m.left_out × IsWhere m.kept m.left_out f × AreNone m.kept m.left_out f
 
 -- it is no object of paths that can name fields
 abbrev pub NamesNone : Json → Type 0

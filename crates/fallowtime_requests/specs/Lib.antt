@@ -2,9 +2,11 @@ pub mod Along
 pub mod Arranging
 pub mod Fields
 pub mod Inputs
+pub mod Orders
 pub mod Plain
 pub mod Reading
 pub mod Reports
 pub mod Requests
+pub mod Staging
 pub mod Streams
 pub mod Upserts

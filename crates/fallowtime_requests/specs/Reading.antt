@@ -1,8 +1,9 @@
 -- Why a command with its arguments asks for nothing: the first argument, in the order of the table of commands, that can't
 -- be read, and why; or there are too few or too many.
-use Rattle.std.specs.Prelude.{◌≡◌, ◌≢◌, ◌⊎◌, ℕ, Bool, List, [], ◌∷◌, Some, None, Ok, Err, Result}
+use Rattle.std.specs.Prelude.{◌≡◌, ◌≢◌, ◌⊎◌, ℕ, Bool, List, [], ◌∷◌, Some, None, MatchOption, Ok, Err, Result}
 use Rattle.json.specs.Find.{as_array}
-use Rattle.json.specs.Json.{Items, document as tree_of}
+use Rattle.json.specs.Json.{Json, Items, no_items, item, no_members, member, document as tree_of}
+use Rattle.json.specs.Json as json
 use Rattle.bson_base.specs.Value.{Value, Members, scalar, binary}
 use Rattle.bson_base.specs.declared.spec.BinarySubtype.TheVariants.{Generic}
 use Rattle.bson_json_read.specs.Outcome.{Fails}
@@ -17,7 +18,9 @@ use Rattle.fallowtime_words.specs.declared.command.Command.{Command}
 use Rattle.fallowtime_words.specs.declared.command.Command.TheVariants as command
 use Rattle.fallowtime_words.specs.declared.table.Argument.{Argument}
 use Rattle.fallowtime_words.specs.declared.table.Argument.TheVariants as argument
+use Rattle.store_pipeline.specs.declared.stage.Stage.{Stage}
 use Rattle.store_question.specs.Asked.{Asked}
+use Rattle.store_question.specs.declared.question.Question.{Question as Asking}
 use Rattle.store_question_read.specs.Outcome as query_outcome
 use Rattle.store_question_read.specs.Outcome.{IsQuery}
 use Rattle.store_question_read.specs.Query.{query}
@@ -28,9 +31,12 @@ use Rattle.store_update_read.specs.Outcome as update_outcome
 use Rattle.store_update_read.specs.Read.{update}
 use Rattle.store_update_read.specs.declared.error.ReadError.{ReadError}
 use Rattle.store_update_read.specs.declared.error.ReadError.TheVariants as updating
-use Rattle.fallowtime_requests.specs.Inputs.{Given, word, tree, IsAsked, IsDocument, IsId, IsPath, IsText, IsUpdate, IsValue, many_of}
+use Rattle.fallowtime_requests.specs.Inputs.{Given, word, tree, HasQuery, IsAsked, IsDocument, IsId, IsPath, IsText, IsUpdate, IsValue, many_of}
 use Rattle.fallowtime_requests.specs.Requests.{Asks, IsFirstUnfit}
+use Rattle.fallowtime_requests.specs.Staging.{HasPipeline, IsNamed, IsStage, stage_named}
 use Rattle.fallowtime_requests.specs.declared.reading.Question.{Question}
+use Rattle.fallowtime_requests.specs.declared.staging.StageName.{StageName}
+use Rattle.fallowtime_requests.specs.declared.staging.StageName.TheVariants as name
 use Rattle.fallowtime_requests.specs.declared.stop.Stop.{Stop}
 use Rattle.fallowtime_requests.specs.declared.stop.Stop.TheVariants.{Words, Memory}
 use Rattle.fallowtime_requests.specs.declared.unread.Unread.{Unread}
@@ -63,6 +69,34 @@ StopsQuery g Memory = Unit {0}
 StopsQuery (word w) (Words u) = (e : QueryError) × (u ≡ unread.Query e) × IsQuery w (Err e)
 StopsQuery (tree j) (Words u) = (e : QueryError) × (u ≡ unread.Query e) × (e ≢ querying.Memory) × query_outcome.Fails e (query j)
 
+-- out of memory, or it is reported that stages can't be read, for a reason
+abbrev pub StopsStages : Type 0 → Stop → Type 0
+StopsStages Fault s = (s ≡ Memory) ⊎ (Fault × (s ≡ Words unread.Stages))
+
+-- a `$match` has no query, or it isn't the stage of this name
+abbrev pub StopsNamed : StageName → Json → Stop → Type 0
+StopsNamed name.Match j s = StopsQuery (tree j) s
+StopsNamed n j s = StopsStages ((t : Stage) → IsNamed n j t → ⊥) s
+
+-- it is no stage
+abbrev pub StopsStage : Json → Stop → Type 0
+StopsStage (json.object (member t j no_members)) s = MatchOption (stage_named t) (s ≡ Words unread.Stages) (λ n. StopsNamed n j s)
+StopsStage j s = s ≡ Words unread.Stages
+
+-- the first of them that is none
+abbrev pub StopsAmong : Items → Stop → Type 0
+StopsAmong no_items s = ⊥
+StopsAmong (item j js) s = StopsStage j s ⊎ (((t : Stage) × IsStage j t) × StopsAmong js s)
+
+-- it is no array, or one of its items is no stage
+abbrev pub StopsTree : Json → Stop → Type 0
+StopsTree (json.array js) s = StopsAmong js s
+StopsTree j s = s ≡ Words unread.Stages
+
+-- out of memory, or no text of JSON, or it is no pipeline
+abbrev pub StopsPipeline : Given → Stop → Type 0
+StopsPipeline g s = StopsStages ((j : Json) → HasQuery g j → ⊥) s ⊎ ((j : Json) × HasQuery g j × StopsTree j s)
+
 abbrev pub StopsUpdate : IdMaker → Given → Stop → Type 0
 StopsUpdate m g Memory = Unit {0}
 StopsUpdate m (word w) (Words u) = (e : ReadError) × (u ≡ unread.Update e) × update_outcome.IsUpdate (date_of m) w (Err e)
@@ -90,6 +124,7 @@ Stops m argument.Value g s = StopsValue g s
 Stops m argument.Query g s = StopsQuery g s
 Stops m argument.Selection g s = StopsQuery g s
 Stops m argument.Update g s = StopsUpdate m g s
+Stops m argument.Pipeline g s = StopsPipeline g s
 Stops m argument.Options g s = StopsOptions g s
 Stops m argument.Documents g s = StopsStream m g s
 Stops m argument.IndexPath g s = (s ≡ Memory) ⊎ StopsText unread.Path g s
@@ -107,6 +142,7 @@ IsRead m argument.Value g = (v : Value) × IsValue g v
 IsRead m argument.Query g = (a : Asked) × IsAsked g a
 IsRead m argument.Selection g = (a : Asked) × IsAsked g a
 IsRead m argument.Update g = (plans : List Plan) × IsUpdate m g plans
+IsRead m argument.Pipeline g = (q : Asking) × (ss : List Stage) × HasPipeline g q ss
 IsRead m argument.Options g = (many : Bool) × (many_of g ≡ Some many)
 IsRead m argument.NewName g = (t : List ℕ) × IsText g t
 IsRead m argument.IndexPath g = (path : List (List ℕ)) × IsPath g path

@@ -9,7 +9,7 @@ use Rattle.store_update_read.specs.declared.error.ReadError.TheVariants as updat
 use Rattle.store_update_read.specs.declared.error.Reason.{Reason}
 use Rattle.store_update_read.specs.declared.error.Reason.TheVariants as reasons
 use Rattle.fallowtime_requests.specs.declared.unread.Unread.{Unread}
-use Rattle.fallowtime_requests.specs.declared.unread.Unread.TheVariants.{Command, Arguments, Collection, Document, DocumentAt, Id, Key, Value, Query, Update, Equalities, Options, Fields, Path, Stream}
+use Rattle.fallowtime_requests.specs.declared.unread.Unread.TheVariants.{Command, Arguments, Collection, Document, DocumentAt, Id, Key, Value, Query, Update, Equalities, Options, Stages, Fields, Path, Stream}
 
 -- a byte's place, counted from 1
 abbrev pub byte_text : ℕ → List ℕ
@@ -64,6 +64,7 @@ at_text (Query e) = codes "query" ++ query_text e
 at_text (Update e) = codes "update" ++ update_text e
 at_text (Equalities e) = codes "query" ++ update_text e
 at_text Options = codes "options"
+at_text Stages = codes "stages"
 at_text Fields = codes "fields"
 at_text Path = codes "path"
 at_text Stream = codes "stream"

@@ -15,6 +15,7 @@ use Rattle.fallowtime_words.specs.declared.command.Command.{Command}
 use Rattle.fallowtime_words.specs.declared.command.Command.TheVariants as command
 use Rattle.store_filter.specs.Filters.{path_of}
 use Rattle.store_model.specs.State.{id_key}
+use Rattle.store_pipeline.specs.declared.stage.Stage.{Stage}
 use Rattle.store_question.specs.Asked.{Asked, all_of, no_asked}
 use Rattle.store_question.specs.declared.question.Question.{Question}
 use Rattle.store_question_read.specs.Outcome.{Asks as StandsFor}
@@ -22,6 +23,7 @@ use Rattle.store_sorted.specs.Bodies.{keys_of}
 use Rattle.store_update.specs.Plan.{Plan}
 use Rattle.store_update_read.specs.Outcome.{plans_of}
 use Rattle.fallowtime_requests.specs.Inputs.{Given, word, tree, IsAsked, IsDocument, IsId, IsPath, IsText, IsUpdate, IsValue, many_of}
+use Rattle.fallowtime_requests.specs.Staging.{HasPipeline}
 use Rattle.fallowtime_requests.specs.declared.reading.Layout.{Layout}
 use Rattle.fallowtime_requests.specs.declared.reading.Layout.TheVariants as layout
 use Rattle.fallowtime_requests.specs.declared.request.Existing.{Existing}
@@ -122,6 +124,11 @@ abbrev pub NameQueryAndDocument : List Given → List ℕ → Question → Membe
 NameQueryAndDocument (c ∷ g ∷ h ∷ []) name q d = IsText c name × ((a : Asked) × IsAsked g a × StandsFor q a) × IsDocument h d
 NameQueryAndDocument _ name q d = ⊥
 
+-- a collection, the question of a pipeline, and its stages
+abbrev pub NameAndPipeline : List Given → List ℕ → Question → List Stage → Type 0
+NameAndPipeline (c ∷ g ∷ []) name q ss = IsText c name × HasPipeline g q ss
+NameAndPipeline _ name q ss = ⊥
+
 -- a collection, and a query that may not be left out
 abbrev pub NameAndSelection : List Given → List ℕ → Question → Type 0
 NameAndSelection (c ∷ g ∷ []) name q = IsText c name × ((a : Asked) × IsAsked g a × StandsFor q a)
@@ -168,6 +175,7 @@ Asks m n command.Remove gs name (request.Remove id) l = NameAndId gs name (view 
 Asks m n command.Find gs name (request.Find q w) l = NameAndQuery gs name q × WantsAll w × (n ≡ m) × (l ≡ layout.Each)
 Asks m n command.Count gs name (request.Count q p) l = NameAndQuery gs name q × (p ≡ whole_part) × (n ≡ m) × (l ≡ layout.Each)
 Asks m n command.Distinct gs name (request.Distinct path q counts) l = NamePathAndQuery gs name (path_of path.items) q × (counts ≡ false) × (n ≡ m) × (l ≡ layout.Each)
+Asks m n command.Aggregate gs name (request.Aggregate q stages) l = NameAndPipeline gs name q stages.items × (n ≡ m) × (l ≡ layout.Each)
 Asks m n command.Import gs name (request.Import stream e) l = NameAndStream m n gs name stream.items × (e ≡ existing.Refuse) × (l ≡ layout.Each)
 Asks m n command.Export gs name (request.Find q w) l = NameAlone gs name × StandsFor q everything × WantsAll w × (n ≡ m) × (l ≡ layout.Stream)
 Asks m n command.Drop gs name (request.Transfer transfer.Drop) l = NameAlone gs name × (n ≡ m) × (l ≡ layout.Each)

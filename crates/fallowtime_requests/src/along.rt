@@ -9,7 +9,7 @@ ghost use Rattle.store_update_read.specs.Outcome.{plans_of};
 
 use crate::reading::Question;
 use crate::request::Request;
-use crate::stop::Stop;
+use crate::stop::{Stop, given_up};
 use crate::unread::Unread;
 use bson_model::Bson;
 use std::alloc::{AllocError, Global};
@@ -65,6 +65,23 @@ fn step_at(alloc: Global, keys: Vec<String>, operation: Operation) -> Result<Vec
     alone(alloc, Step::At(keys, operation))
 }
 
+/// The one step of an operation at the path of its operator.
+fn steps_along(
+    alloc: Global,
+    operator: &str,
+    path: &str,
+    operation: Operation,
+) -> Result<Vec<Step>, Stop>
+    ensures { MatchResult result
+        (λ steps. IsPlanned operator.now path.now (change_of operation) (plans_of steps))
+        (StopsPath operator.now path.now) }
+{
+    match keys_at(alloc, operator, path) {
+        Ok(keys) => Ok(step_at(alloc, keys, operation)?),
+        Err(stop) => Err(given_up(operation, stop)),
+    }
+}
+
 /// To put a value at a path of several keys, or under a key.
 fn set_along<'w>(alloc: Global, id: Bson, key: &'w str, value: Bson) -> Result<Request<'w>, Stop>
     ensures { MatchResult result (Along (request.Set id key.entry value)) (StopsAlong (request.Set id key.entry value)) }
@@ -72,9 +89,10 @@ fn set_along<'w>(alloc: Global, id: Bson, key: &'w str, value: Bson) -> Result<R
     if !has_dot(key.as_bytes()) {
         return Ok(Request::Set(id, key, value));
     }
-    let keys = keys_at(alloc, "$set", key)?;
-    let steps = step_at(alloc, keys, Operation::Set(value))?;
-    Ok(Request::Alter(id, steps, false))
+    match steps_along(alloc, "$set", key, Operation::Set(value)) {
+        Ok(steps) => Ok(Request::Alter(id, steps, false)),
+        Err(stop) => Err(given_up(id, stop)),
+    }
 }
 
 /// To take away what is at a path of several keys, or under a key.
@@ -84,9 +102,10 @@ fn unset_along<'w>(alloc: Global, id: Bson, key: &'w str) -> Result<Request<'w>,
     if !has_dot(key.as_bytes()) {
         return Ok(Request::Unset(id, key));
     }
-    let keys = keys_at(alloc, "$unset", key)?;
-    let steps = step_at(alloc, keys, Operation::Unset)?;
-    Ok(Request::Alter(id, steps, true))
+    match steps_along(alloc, "$unset", key, Operation::Unset) {
+        Ok(steps) => Ok(Request::Alter(id, steps, true)),
+        Err(stop) => Err(given_up(id, stop)),
+    }
 }
 
 /// A request with a path in the place of its key; any other stays.

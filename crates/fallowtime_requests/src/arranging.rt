@@ -5,7 +5,8 @@ ghost use Rattle.std.specs.Prelude.{◌≡◌, ◌≢◌, ◌⊎◌, [], ℕ, If
 ghost use Rattle.std.specs.Option.{option_map};
 ghost use Rattle.json.specs.Value.{items_view, members_view, value_view as data_of};
 ghost use Rattle.store_sorted.specs.Bodies.{key_of, keys_of};
-ghost use Rattle.fallowtime_requests.specs.Arranging.{AsksWanted, FindsDocuments, IsCount, IsOfNumbers, IsOfWords, IsPlan, Plan, PutsOption, PutsOptions, ReadsLine, ReadsThree, ReadsTwo, StopsOptions, StopsSort, StopsWanted, StopsWith, after_in, key_in, keys_behind, keys_under, part_of, plan_of, turn_in, whole, with_wanted};
+ghost use Rattle.fallowtime_requests.specs.Arranging.{AsksWanted, FindsDocuments, IsOfNumbers, IsOfWords, IsPlan, Plan, PutsOption, PutsOptions, ReadsLine, ReadsThree, ReadsTwo, StopsOptions, StopsSort, StopsWanted, StopsWith, after_in, part_of, plan_of, whole, with_wanted};
+ghost use Rattle.fallowtime_requests.specs.Orders.{IsCount, key_in, keys_behind, keys_under, turn_in};
 ghost use Rattle.fallowtime_requests.specs.Plain.{are_plainly};
 ghost use Rattle.fallowtime_requests.specs.Reading.{KeepsMaker};
 ghost use Rattle.fallowtime_requests.specs.Requests.{WantsAll};
@@ -24,7 +25,7 @@ use crate::options::boolean_of;
 use crate::plain::are_plainly;
 use crate::reading::{Question, question_of_items};
 use crate::request::{Part, Request, Wanted};
-use crate::stop::Stop;
+use crate::stop::{Stop, given_up};
 use crate::transferring::rename_of_line;
 use crate::unread::Unread;
 use bson_json_read::Scratch;
@@ -32,6 +33,7 @@ use fallowtime_texts::IdMaker;
 use fallowtime_words::{Command, Words};
 use json::Value;
 use std::alloc::{AllocError, Global};
+use std::mem::replace;
 use store_sorted::{Arrangement, SortKey, sort_key_by, sort_keys_of};
 
 /// All documents, as they come, each whole.
@@ -122,23 +124,36 @@ pub(crate) fn part_of(wanted: &Wanted) -> Part
     }
 }
 
-/// Lets a question that finds documents return what is wanted of them, or of the one that it changes, and one that counts
-/// documents count the part that is wanted. Any other stays as it is.
+/// Lets a question that finds documents return what is wanted of them, or of the one that it changes, and one that
+/// counts documents count the part that is wanted. Any other stays as it is.
 pub fn want(question: &mut Question<'_>, wanted: Wanted)
     ensures request { question.new.request ≡ with_wanted wanted question.old.request }
     ensures collection { question.new.collection ≡ question.old.collection }
     ensures layout { question.new.layout ≡ question.old.layout }
 {
     match &mut question.request {
-        Request::Find(_, place) => *place = wanted,
-        Request::FindAndChange(_, place, _) => *place = wanted,
-        Request::Count(_, place) => *place = part_of(&wanted),
-        _ => {}
+        Request::Find(_, place) => drop(replace(place, wanted)),
+        Request::FindAndChange(_, place, _) => drop(replace(place, wanted)),
+        Request::Count(_, place) => {
+            *place = part_of(&wanted);
+            drop(wanted);
+        }
+        _ => drop(wanted),
     }
 }
 
+/// The question, with what is wanted.
+fn wanting<'w>(question: Question<'w>, wanted: Wanted) -> Question<'w>
+    ensures { (result.request ≡ with_wanted wanted question.entry.request) × (result.collection ≡ question.entry.collection)
+        × (result.layout ≡ question.entry.layout) }
+{
+    let mut question = question;
+    want(&mut question, wanted);
+    question
+}
+
 /// The number of documents that a value is: decimal digits alone.
-fn count_in(value: &Value<'_>) -> Option<usize>
+pub(crate) fn count_in(value: &Value<'_>) -> Option<usize>
     ensures { MatchOption result ((n : ℕ) → IsCount (data_of value.now) n → ⊥) (λ n. IsCount (data_of value.now) n) }
 {
     match value {
@@ -186,7 +201,7 @@ fn keys_among(alloc: Global, members: &[(&str, Value<'_>)]) -> Result<Vec<SortKe
 }
 
 /// The keys that an object is as an order.
-fn keys_in(alloc: Global, value: &Value<'_>) -> Result<Vec<SortKey>, Stop>
+pub(crate) fn keys_in(alloc: Global, value: &Value<'_>) -> Result<Vec<SortKey>, Stop>
     ensures { MatchResult result (λ keys. keys_under (data_of value.now) ≡ Some (keys_of keys.items))
         (λ s. (s ≡ Memory) ⊎ ((s ≡ InWords unread.Options) × (keys_under (data_of value.now) ≡ None))) }
 {
@@ -274,10 +289,11 @@ fn find_by_options<'w>(
         (StopsWith maker.old maker.new command (items_view items.now) (data_of options.now)) }
     ensures maker { IfErr result (KeepsMaker maker.old maker.new) }
 {
-    let mut question = question_of_items(alloc, command, items, maker, scratch)?;
-    let wanted = wanted_of(alloc, has_after(command), options)?;
-    want(&mut question, wanted);
-    Ok(question)
+    let question = question_of_items(alloc, command, items, maker, scratch)?;
+    match wanted_of(alloc, has_after(command), options) {
+        Ok(wanted) => Ok(wanting(question, wanted)),
+        Err(stop) => Err(given_up(question, stop)),
+    }
 }
 
 /// What a command that finds documents asks for by the values of a line, a collection and a query and maybe options.
@@ -321,9 +337,9 @@ fn find_of_three<'w>(
 /// What a line asks for whose command has the values of an array as its arguments, as `question_of_items` says. Behind
 /// them `find`, `find-and-update`, `find-and-replace` and `find-and-delete` have an object of the options `sort`,
 /// `skip`, `limit` and `fields`, and the second and the third of these also `after`; `update` and `replace-one` have
-/// one with the option `upsert`, `distinct` one with the option `count`, `count` one with the options `skip` and `limit`,
-/// `rename` one with the option `drop`, `import` one with `upsert` or `skip-existing`, and `set` and `unset` one with the option `key`, without which a key that has a
-/// dot is a path.
+/// one with the option `upsert`, `distinct` one with the option `count`, `count` one with the options `skip` and
+/// `limit`, `rename` one with the option `drop`, `import` one with `upsert` or `skip-existing`, and `set` and `unset` one
+/// with the option `key`, without which a key that has a dot is a path.
 ///
 /// `Words` as there, `Options` if that object can't be read, and `Equalities` if the equality fields of a query can't
 /// be set beside each other.

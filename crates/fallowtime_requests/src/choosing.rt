@@ -12,7 +12,7 @@ ghost use Rattle.fallowtime_words.specs.declared.command.Command.TheVariants as 
 use crate::input::of_value;
 use crate::options::boolean_of;
 use crate::reading::{Question, question_of_items};
-use crate::stop::Stop;
+use crate::stop::{Stop, given_up};
 use crate::unread::Unread;
 use crate::upserts::upserting;
 use bson_json_read::Scratch;
@@ -139,11 +139,13 @@ fn change_by_options<'w>(
     ensures maker { IfErr result (KeepsMaker maker.old maker.new) }
 {
     let question = question_of_items(alloc, command, items, maker, scratch)?;
-    let Some(choice) = choice_of(several, options) else {
-        return Err(Stop::Words(Unread::Options));
-    };
-    let question = of_many(question, choice.many);
-    upserting_if(alloc, choice.upsert, question, query, maker, scratch)
+    match choice_of(several, options) {
+        Some(choice) => {
+            let question = of_many(question, choice.many);
+            upserting_if(alloc, choice.upsert, question, query, maker, scratch)
+        }
+        None => Err(given_up(question, Stop::Words(Unread::Options))),
+    }
 }
 
 /// What a change by query asks for by the values of a line.

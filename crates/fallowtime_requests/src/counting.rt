@@ -10,7 +10,7 @@ ghost use Rattle.fallowtime_words.specs.declared.command.Command.TheVariants as 
 
 use crate::options::flag_of;
 use crate::reading::{Question, question_of_items};
-use crate::stop::Stop;
+use crate::stop::{Stop, given_up};
 use crate::unread::Unread;
 use bson_json_read::Scratch;
 use fallowtime_texts::IdMaker;
@@ -47,7 +47,7 @@ fn distinct_by_options<'w>(
     let question = question_of_items(alloc, Command::Distinct, items, maker, scratch)?;
     match flag_of("count", options) {
         Some(counts) => Ok(counted(question, counts)),
-        None => Err(Stop::Words(Unread::Options)),
+        None => Err(given_up(question, Stop::Words(Unread::Options))),
     }
 }
 

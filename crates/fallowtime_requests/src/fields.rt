@@ -8,7 +8,7 @@ ghost use Rattle.store_fields.specs.declared.error.PathsError.TheVariants as pat
 ghost use Rattle.store_filter.specs.Filters.{path_of as path_view};
 ghost use Rattle.store_sorted.specs.Texts.{path_in as keys_in};
 ghost use Rattle.fallowtime_requests.specs.Arranging.{StopsFields, StopsOptions};
-ghost use Rattle.fallowtime_requests.specs.Fields.{CanName, FieldsAre, GoTogether, IsOfTexts, NamesNone, TextsNameNone, IsWhere, marked_behind, marked_of, marked_under, none_marked, paths_given, stays_in};
+ghost use Rattle.fallowtime_requests.specs.Fields.{AreNone, CanName, FieldsAre, GoTogether, IsOfTexts, NamesNone, TextsNameNone, IsWhere, marked_behind, marked_of, marked_under, none_marked, paths_given, stays_in};
 ghost use Rattle.fallowtime_requests.specs.Plain.{have_plain_paths};
 ghost use Rattle.fallowtime_requests.specs.declared.stop.Stop.TheVariants.{Memory, Words};
 ghost use Rattle.fallowtime_requests.specs.declared.unread.Unread.TheVariants as unread;
@@ -32,7 +32,8 @@ pub(crate) struct Named {
 
 /// The fields at paths, and the `_id`; none, for all, without paths. The error is a refused growth.
 fn fields_at(alloc: Global, kept: Vec<Vec<String>>) -> Result<Option<Fields>, AllocError>
-    ensures { IfOk result (IsWhere (paths_seen kept.items) []) }
+    ensures fields { IfOk result (IsWhere (paths_seen kept.items) []) }
+    ensures none { IfOk result (AreNone (paths_seen kept.items) []) }
 {
     if kept.is_empty() {
         return Ok(None);
@@ -48,6 +49,7 @@ fn fields_where(
     left_out: Vec<Vec<String>>,
 ) -> Result<Option<Fields>, PathsError>
     ensures fields { IfOk result (IsWhere (paths_seen kept.items) (paths_seen left_out.items)) }
+    ensures none { IfOk result (AreNone (paths_seen kept.items) (paths_seen left_out.items)) }
     ensures together { MatchResult result (λ _. GoTogether (paths_seen kept.items) (paths_seen left_out.items))
         (λ e. (e ≡ paths_errors.Memory) ⊎ (GoTogether (paths_seen kept.items) (paths_seen left_out.items) → ⊥)) }
 {
@@ -185,6 +187,7 @@ fn named_in(alloc: Global, value: &Value<'_>) -> Result<Named, Stop>
 fn fields_named(alloc: Global, named: Named) -> Result<Option<Fields>, PathsError>
     ensures { MatchResult result
         (λ f. IsWhere (paths_seen named.kept.items) (paths_seen named.left_out.items) f
+        × AreNone (paths_seen named.kept.items) (paths_seen named.left_out.items) f
         × CanName (paths_seen named.kept.items) (paths_seen named.left_out.items))
         (λ e. (e ≡ paths_errors.Memory) ⊎ (CanName (paths_seen named.kept.items) (paths_seen named.left_out.items) → ⊥)) }
 {

@@ -10,7 +10,7 @@ ghost use Rattle.fallowtime_words.specs.declared.command.Command.TheVariants as 
 use crate::along::along_path;
 use crate::options::flag_of;
 use crate::reading::{Question, question_of_items};
-use crate::stop::Stop;
+use crate::stop::{Stop, given_up};
 use crate::unread::Unread;
 use bson_json_read::Scratch;
 use fallowtime_texts::IdMaker;
@@ -45,10 +45,10 @@ fn keyed<'w>(
     ensures maker { IfErr result (KeepsMaker maker.old maker.new) }
 {
     let question = question_of_items(alloc, command, items, maker, scratch)?;
-    let Some(literal) = literal_in(options) else {
-        return Err(Stop::Words(Unread::Options));
-    };
-    along_path(alloc, literal, question)
+    match literal_in(options) {
+        Some(literal) => along_path(alloc, literal, question),
+        None => Err(given_up(question, Stop::Words(Unread::Options))),
+    }
 }
 
 /// What `set` asks for by the values of a line.

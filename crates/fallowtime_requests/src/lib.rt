@@ -2,11 +2,13 @@
 //! words of a command line or the JSON of a line of a session.
 #![tactic(auto)]
 
+mod aggregating;
 mod along;
 mod arranging;
 mod choosing;
 mod counting;
 mod fields;
+mod grouping;
 mod importing;
 mod indexing;
 mod input;
@@ -17,10 +19,13 @@ mod parts;
 mod plain;
 mod reading;
 mod request;
+mod returning;
+mod staging;
 mod stop;
 mod stream;
 mod transferring;
 mod unread;
+mod unwinding;
 mod updates;
 mod upserts;
 

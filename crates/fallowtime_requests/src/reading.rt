@@ -6,7 +6,7 @@ ghost use Rattle.bson_model.specs.View.{content, view};
 ghost use Rattle.json.specs.Value.{items_view};
 ghost use Rattle.fallowtime_requests.specs.Inputs.{seen, texts, trees};
 ghost use Rattle.fallowtime_requests.specs.Reading.{IsUnread, KeepsMaker, Reads};
-ghost use Rattle.fallowtime_requests.specs.Requests.{NameAlone, NameAndDocument, NameAndId, NameAndQuery, NameAndSelection, NameAndStream, NameIdAndKey, NameIdKeyAndValue, NamePathAndQuery, NameQueryAndDocument, NameQueryAndMany, NameQueryAndUpdate, NameQueryUpdateAndMany, everything};
+ghost use Rattle.fallowtime_requests.specs.Requests.{NameAlone, NameAndDocument, NameAndId, NameAndQuery, NameIdAndKey, NameIdKeyAndValue, NamePathAndQuery, NameQueryAndDocument, NameQueryAndMany, NameQueryUpdateAndMany, everything};
 ghost use Rattle.fallowtime_texts.specs.declared.made.IdMaker.{IdMaker as Maker};
 ghost use Rattle.fallowtime_words.specs.declared.command.Command.TheVariants as commands;
 ghost use Rattle.fallowtime_words.specs.declared.table.Argument.TheVariants as argument;
@@ -15,12 +15,14 @@ ghost use Rattle.store_model.specs.State.{id_key};
 ghost use Rattle.store_question_read.specs.Outcome.{Asks as StandsFor};
 ghost use Rattle.store_update_read.specs.Outcome.{plans_of};
 
+use crate::aggregating::aggregate;
 use crate::arranging::all_of;
 use crate::indexing::{drop_index, index};
 use crate::input::{Input, of_value, of_word};
 use crate::options::many_of;
 use crate::parts::{collection_of, document_of, id_of, key_of, path_of, query_in, value_of};
 use crate::request::{Existing, Part, Request, Work};
+use crate::returning::{find_and_delete, find_and_replace, find_and_update};
 use crate::stop::Stop;
 use crate::stream::stream_in;
 use crate::transferring::{copy, drop_collection, rename};
@@ -266,7 +268,7 @@ fn with_selection<'w>(
 }
 
 /// A collection, the question of the query, and a document.
-fn with_replacement<'w>(
+pub(crate) fn with_replacement<'w>(
     alloc: Global,
     arguments: &[Input<'_, 'w>],
     scratch: &mut Scratch,
@@ -286,44 +288,6 @@ fn with_replacement<'w>(
     }
 }
 
-/// A collection, the question of the query, and the steps of the update.
-fn with_steps<'w>(
-    alloc: Global,
-    maker: &IdMaker,
-    arguments: &[Input<'_, 'w>],
-    scratch: &mut Scratch,
-) -> Result<(&'w str, store_question::Question, Vec<Step>), Stop>
-    ensures { MatchResult result
-        (λ p. NameQueryAndUpdate maker.now (map seen arguments.now) p.0.now p.1 (plans_of p.2))
-        (IsUnread maker.now (argument.Collection ∷ argument.Selection ∷ argument.Update ∷ [])
-        (map seen arguments.now)) }
-{
-    match arguments {
-        [name, query, update] => parts_of(alloc, maker, *name, *query, *update, scratch),
-        _ => Err(Stop::Words(Unread::Arguments)),
-    }
-}
-
-/// A collection, and the question of the query.
-fn with_question<'w>(
-    alloc: Global,
-    arguments: &[Input<'_, 'w>],
-    scratch: &mut Scratch,
-) -> Result<(&'w str, store_question::Question), Stop>
-    ensures { (m : Maker) → MatchResult result
-        (λ p. NameAndSelection (map seen arguments.now) p.0.now p.1)
-        (IsUnread m (argument.Collection ∷ argument.Selection ∷ []) (map seen arguments.now)) }
-{
-    match arguments {
-        [name, query] => {
-            let name = collection_of(*name)?;
-            let question = query_in(alloc, *query, scratch)?;
-            Ok((name, question))
-        }
-        _ => Err(Stop::Words(Unread::Arguments)),
-    }
-}
-
 /// A copy of the `_id` of a document that has one.
 pub(crate) fn own_id(alloc: Global, document: &Document) -> Result<Bson, AllocError>
     requires { has_key id_key (content document.now) ≡ true }
@@ -335,6 +299,7 @@ pub(crate) fn own_id(alloc: Global, document: &Document) -> Result<Bson, AllocEr
     }
 }
 
+/// The request of `insert`: a document, with an `_id` that `maker` makes if it has none.
 fn insert<'w>(
     alloc: Global,
     arguments: &[Input<'_, 'w>],
@@ -350,6 +315,7 @@ fn insert<'w>(
     Ok(plain(collection, Request::Insert(id, document)))
 }
 
+/// The request of `put`: a document with an `_id`.
 fn put<'w>(
     alloc: Global,
     arguments: &[Input<'_, 'w>],
@@ -361,6 +327,7 @@ fn put<'w>(
     Ok(plain(collection, Request::Put(document)))
 }
 
+/// The request of `replace`: a document with an `_id`.
 fn replace<'w>(
     alloc: Global,
     arguments: &[Input<'_, 'w>],
@@ -372,6 +339,7 @@ fn replace<'w>(
     Ok(plain(collection, Request::Replace(document)))
 }
 
+/// The request of `get`: an `_id`.
 fn get<'w>(
     alloc: Global,
     arguments: &[Input<'_, 'w>],
@@ -383,6 +351,7 @@ fn get<'w>(
     Ok(plain(collection, Request::Get(id)))
 }
 
+/// The request of `set`: an `_id`, a key, or a path of several, and a value.
 fn set<'w>(
     alloc: Global,
     arguments: &[Input<'_, 'w>],
@@ -394,6 +363,7 @@ fn set<'w>(
     Ok(plain(collection, Request::Set(id, key, value)))
 }
 
+/// The request of `unset`: an `_id` and a key, or a path of several.
 fn unset<'w>(
     alloc: Global,
     arguments: &[Input<'_, 'w>],
@@ -405,6 +375,7 @@ fn unset<'w>(
     Ok(plain(collection, Request::Unset(id, key)))
 }
 
+/// The request of `update`: a query, steps, and whether one document or each is changed.
 fn update<'w>(
     alloc: Global,
     arguments: &[Input<'_, 'w>],
@@ -418,6 +389,7 @@ fn update<'w>(
     Ok(plain(collection, Request::Change(question, work, many)))
 }
 
+/// The request of `replace-one`: a query and the document to put in the place of the first that answers.
 fn replace_one<'w>(
     alloc: Global,
     arguments: &[Input<'_, 'w>],
@@ -430,6 +402,7 @@ fn replace_one<'w>(
     Ok(plain(collection, Request::Change(question, work, false)))
 }
 
+/// The request of `delete`: a query, and whether one document or each is removed.
 fn delete<'w>(
     alloc: Global,
     arguments: &[Input<'_, 'w>],
@@ -441,49 +414,7 @@ fn delete<'w>(
     Ok(plain(collection, Request::Change(question, Work::Remove, many)))
 }
 
-fn find_and_update<'w>(
-    alloc: Global,
-    arguments: &[Input<'_, 'w>],
-    maker: &IdMaker,
-    scratch: &mut Scratch,
-) -> Result<Question<'w>, Stop>
-    ensures { Reads maker.now maker.now commands.FindAndUpdate (map seen arguments.now) result }
-{
-    let (collection, question, steps) = with_steps(alloc, maker, arguments, scratch)?;
-    let work = Work::Update(steps);
-    Ok(plain(
-        collection,
-        Request::FindAndChange(question, all_of(alloc), work),
-    ))
-}
-
-fn find_and_replace<'w>(
-    alloc: Global,
-    arguments: &[Input<'_, 'w>],
-    scratch: &mut Scratch,
-) -> Result<Question<'w>, Stop>
-    ensures { (m : Maker) → Reads m m commands.FindAndReplace (map seen arguments.now) result }
-{
-    let (collection, question, document) = with_replacement(alloc, arguments, scratch)?;
-    let work = Work::Replace(document);
-    Ok(plain(
-        collection,
-        Request::FindAndChange(question, all_of(alloc), work),
-    ))
-}
-
-fn find_and_delete<'w>(
-    alloc: Global,
-    arguments: &[Input<'_, 'w>],
-    scratch: &mut Scratch,
-) -> Result<Question<'w>, Stop>
-    ensures { (m : Maker) → Reads m m commands.FindAndDelete (map seen arguments.now) result }
-{
-    let (collection, question) = with_question(alloc, arguments, scratch)?;
-    let request = Request::FindAndChange(question, all_of(alloc), Work::Remove);
-    Ok(plain(collection, request))
-}
-
+/// The request of `remove`: an `_id`.
 fn remove<'w>(
     alloc: Global,
     arguments: &[Input<'_, 'w>],
@@ -495,6 +426,7 @@ fn remove<'w>(
     Ok(plain(collection, Request::Remove(id)))
 }
 
+/// The request of `find`: a query, or none for all documents.
 fn find<'w>(
     alloc: Global,
     arguments: &[Input<'_, 'w>],
@@ -506,6 +438,7 @@ fn find<'w>(
     Ok(plain(collection, Request::Find(query, all_of(alloc))))
 }
 
+/// The request of `count`: a query, or none for all documents.
 fn count<'w>(
     alloc: Global,
     arguments: &[Input<'_, 'w>],
@@ -517,6 +450,7 @@ fn count<'w>(
     Ok(plain(collection, Request::Count(query, WHOLE)))
 }
 
+/// The request of `distinct`: a path, a query, and whether documents are counted.
 fn distinct<'w>(
     alloc: Global,
     arguments: &[Input<'_, 'w>],
@@ -528,6 +462,7 @@ fn distinct<'w>(
     Ok(plain(collection, Request::Distinct(path, query, false)))
 }
 
+/// The request of `import`: the documents of an input.
 fn import<'w>(
     alloc: Global,
     arguments: &[Input<'_, 'w>],
@@ -545,6 +480,7 @@ fn import<'w>(
     }
 }
 
+/// The request of `export`, which has a collection alone.
 fn export<'w>(alloc: Global, arguments: &[Input<'_, 'w>]) -> Result<Question<'w>, Stop>
     ensures { (m : Maker) → Reads m m commands.Export (map seen arguments.now) result }
 {
@@ -556,6 +492,7 @@ fn export<'w>(alloc: Global, arguments: &[Input<'_, 'w>]) -> Result<Question<'w>
     })
 }
 
+/// The request of `collections`, which has no argument.
 fn collections<'w>(arguments: &[Input<'_, 'w>]) -> Result<Question<'w>, Stop>
     ensures { (m : Maker) → Reads m m commands.Collections (map seen arguments.now) result }
 {
@@ -565,6 +502,7 @@ fn collections<'w>(arguments: &[Input<'_, 'w>]) -> Result<Question<'w>, Stop>
     }
 }
 
+/// The request of `check`, which has no argument.
 fn check<'w>(arguments: &[Input<'_, 'w>]) -> Result<Question<'w>, Stop>
     ensures { (m : Maker) → Reads m m commands.Check (map seen arguments.now) result }
 {
@@ -602,6 +540,7 @@ fn question_of<'w>(
         Command::Find => find(alloc, arguments, scratch),
         Command::Count => count(alloc, arguments, scratch),
         Command::Distinct => distinct(alloc, arguments, scratch),
+        Command::Aggregate => aggregate(alloc, arguments, scratch),
         Command::Import => import(alloc, arguments, maker),
         Command::Export => export(alloc, arguments),
         Command::Drop => drop_collection(arguments),
@@ -706,7 +645,8 @@ fn ask_four<'w>(
 /// of the maker if it has none. `scratch` is room that is kept from text to text.
 ///
 /// `Words` for the first argument, in the order of the table, that can't be read, and why; or `Arguments` if there are
-/// too few or too many of them, or `Command` if it is one, as `backup`, that asks nothing of a store. `Memory` if a growth was refused.
+/// too few or too many of them, or `Command` if it is one, as `backup`, that asks nothing of a store. `Memory` if a
+/// growth was refused.
 pub fn question_of_words<'w>(
     alloc: Global,
     command: Command,

@@ -2,6 +2,7 @@
 
 use bson_model::{Bson, Document};
 use store_fields::Fields;
+use store_pipeline::Stage;
 use store_question::Question;
 use store_sorted::Arrangement;
 use store_update::{Step, UpdateError};
@@ -115,6 +116,8 @@ pub enum Request<'w> {
     Count(Question, Part),
     /// The different values at a path of the documents that answer a question; if so, with how many have each.
     Distinct(Vec<String>, Question, bool),
+    /// The documents that the stages of a pipeline make of those that answer a question.
+    Aggregate(Question, Vec<Stage>),
     /// To put in the documents of a stream of BSON, all or none, and what becomes of those whose `_id` is there.
     Import(Vec<u8>, Existing),
     /// To remove all documents, to give them to another collection, or to copy them there.

@@ -15,6 +15,15 @@ pub enum Stop {
     Memory,
 }
 
+/// Why nothing is asked for after all, once a value was read that is let go here. (A function that lets go a value of many
+/// kinds in one of its arms, or at a `?`, is dear to prove.)
+pub(crate) fn given_up<T: Drop>(read: T, stop: Stop) -> Stop
+    ensures { result ≡ stop }
+{
+    drop(read);
+    stop
+}
+
 impl From<AllocError> for Stop {
     ghost from_gives = { λ _ s. s ≡ Memory };
 

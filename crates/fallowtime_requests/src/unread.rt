@@ -38,6 +38,8 @@ pub enum Unread {
     Equalities(ReadError),
     /// It is no object of the options that the command has.
     Options,
+    /// It is no array of the stages of a pipeline.
+    Stages,
     /// The paths of `--fields` and `--without` can't name fields: a key is empty or begins with `$`, one path is the
     /// beginning of another, or beside kept fields others than the `_id` are left out.
     Fields,
@@ -186,6 +188,7 @@ impl Unread {
             Unread::Key => line.push_str("key"),
             Unread::Value(_) => line.push_str("value"),
             Unread::Options => line.push_str("options"),
+            Unread::Stages => line.push_str("stages"),
             Unread::Fields => line.push_str("fields"),
             Unread::Path => line.push_str("path"),
             Unread::Stream => line.push_str("stream"),

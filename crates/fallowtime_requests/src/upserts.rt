@@ -10,12 +10,12 @@ ghost use Rattle.store_update.specs.Answer.{viewed_document};
 ghost use Rattle.store_update.specs.Plan.{plan_of};
 ghost use Rattle.store_update.specs.Update.{Tells, updated};
 ghost use Rattle.store_update.specs.declared.error.UpdateError.TheVariants.{Memory};
-ghost use Rattle.store_update_read.specs.Seed.{fixed_by};
+ghost use Rattle.store_update_read.specs.Seed.{Fixed, fixed_by};
 
 use crate::input::{Input, of_word};
 use crate::reading::{Question, own_id};
 use crate::request::{Otherwise, Request, Work};
-use crate::stop::Stop;
+use crate::stop::{Stop, given_up};
 use crate::unread::Unread;
 use bson_json_read::Scratch;
 use bson_meaning::same_meaning;
@@ -72,6 +72,7 @@ fn fronted(alloc: Global, document: Document, id: Bson) -> Result<Document, Allo
     ensures { IfOk result (λ d. content d ≡ fronted (view id) (content document)) }
 {
     if document.contains_key(ID_KEY) {
+        drop(id);
         return Ok(document);
     }
     with_front_id(alloc, id, document)
@@ -90,6 +91,8 @@ fn with_its_id(alloc: Global, id: Bson, by: Document) -> Result<Document, Update
         (λ e. Takes (Some (view id)) (content by) (Err e) ⊎ (e ≡ Memory)) }
 {
     if has_other_id(&by, &id) {
+        drop(by);
+        drop(id);
         return Err(UpdateError::Id);
     }
     Ok(fronted(alloc, by, id)?)
@@ -180,6 +183,23 @@ fn seed_in(alloc: Global, query: Input<'_, '_>, scratch: &mut Scratch) -> Result
     }
 }
 
+/// What is put in if no document answers a query: what is made of the fields that it fixes.
+fn otherwise_by(
+    alloc: Global,
+    query: Input<'_, '_>,
+    work: &Work,
+    maker: &mut IdMaker,
+    scratch: &mut Scratch,
+) -> Result<Otherwise, Stop>
+    ensures made { MatchResult result
+        (λ o. (f : Fixed) × IsFixed (seen query.entry) f × IsOtherwise maker.old maker.new f work.now o)
+        (StopsFixed (seen query.entry)) }
+    ensures maker { IfErr result (KeepsMaker maker.old maker.new) }
+{
+    let seed = seed_in(alloc, query, scratch)?;
+    otherwise_of(alloc, seed, work, maker)
+}
+
 /// A change by query, with what is put in if no document answers. Any other request stays.
 fn upserting_request<'w>(
     alloc: Global,
@@ -195,9 +215,13 @@ fn upserting_request<'w>(
 {
     match request {
         Request::Change(found, work, many) => {
-            let seed = seed_in(alloc, query, scratch)?;
-            let otherwise = otherwise_of(alloc, seed, &work, maker)?;
-            Ok(Request::Upsert(found, work, many, otherwise))
+            match otherwise_by(alloc, query, &work, maker, scratch) {
+                Ok(otherwise) => Ok(Request::Upsert(found, work, many, otherwise)),
+                Err(stop) => {
+                    drop(work);
+                    Err(given_up(found, stop))
+                }
+            }
         }
         other => Ok(other),
     }

@@ -167,4 +167,5 @@ Shows l id (Ok (answer.Updated m c)) line = line ≡ line_of id (update m c)
 Shows l id (Ok (answer.NotUpdated i e)) line = line ≡ line_of id (refusal (update_name e) (Some i) None)
 Shows l id (Ok (answer.Upserted own)) line = IsLineOf id (IsUpsert (view own)) line
 Shows l id (Ok (answer.NotUpserted e)) line = line ≡ line_of id (refusal (update_name e) None None)
+Shows l id (Ok (answer.NotCalculated e)) line = line ≡ line_of id (refusal (update_name e) None None)
 Shows l id (Err e) line = line ≡ line_of id (refusal (kind_name e.kind) e.document None)

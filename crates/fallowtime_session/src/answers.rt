@@ -381,6 +381,7 @@ pub(crate) fn told_line(
         }
         Answer::Upserted(own) => upsert_line(alloc, id, own),
         Answer::NotUpserted(error) => refusal_line(alloc, id, update_name(*error), None, None),
+        Answer::NotCalculated(error) => refusal_line(alloc, id, update_name(*error), None, None),
     }
 }
 

@@ -4,4 +4,5 @@ pub mod LineLemmas
 pub mod ChangeLemmas
 pub mod CountLemmas
 pub mod FindLemmas
+pub mod StageLemmas
 pub mod ModifyLemmas

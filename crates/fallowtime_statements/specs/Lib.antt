@@ -5,4 +5,5 @@ pub mod Lines
 pub mod Changes
 pub mod Counting
 pub mod Finding
+pub mod Staging
 pub mod Modifying

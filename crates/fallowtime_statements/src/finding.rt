@@ -36,7 +36,7 @@ fn only_member(document: &Document) -> Option<(&str, &Bson)>
 }
 
 /// The name of a stage, and its operand.
-fn stage_of(stage: &Bson) -> Option<(&str, &Bson)>
+pub(crate) fn stage_of(stage: &Bson) -> Option<(&str, &Bson)>
     ensures { option_map (λ p. (p.0.now, view p.1.now)) result ≡ stage_of (view stage.now) }
 {
     match stage {

@@ -10,6 +10,7 @@ mod lines;
 mod modifying;
 mod name;
 mod options;
+mod staging;
 mod statement;
 
 pub use changes::{changes_of, removals_of};
@@ -26,4 +27,5 @@ pub use modifying::{
 };
 pub use name::{Name, first_key, name_of};
 pub use options::{one_member, put};
+pub use staging::pipeline_statement;
 pub use statement::Statement;

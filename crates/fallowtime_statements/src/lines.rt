@@ -155,6 +155,7 @@ fn lasting(alloc: Global, request: Request<'_>) -> Result<Request<'static>, Faul
         Request::Distinct(path, question, counts) => {
             Ok(Request::Distinct(path, question, counts))
         }
+        Request::Aggregate(question, stages) => Ok(Request::Aggregate(question, stages)),
         Request::Collections => Ok(Request::Collections),
         Request::Transfer(how) => lasting_transfer(alloc, how),
         Request::Upsert(question, work, all, otherwise) => {

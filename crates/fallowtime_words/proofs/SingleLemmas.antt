@@ -5,11 +5,11 @@ use Rattle.fallowtime_words.specs.Options.{Spell, AreOptions, no_options, with_a
 use Rattle.fallowtime_words.specs.Reading.{MayFollow}
 use Rattle.fallowtime_words.specs.Words.{Asked, line, session, AreOfSession, HasRest, IsTask}
 use Rattle.fallowtime_words.specs.declared.command.Command.{Command}
-use Rattle.fallowtime_words.specs.declared.command.Command.TheVariants.{Insert, Put, Replace, Get, Set, Unset, Update, ReplaceOne, Delete, FindAndUpdate, FindAndReplace, FindAndDelete, Remove, Find, Count, Distinct, Import, Export, Drop, Rename, Copy, Collections, Check, Backup, Apply, Index, DropIndex, Version, ImportAll, ExportAll, Edit}
+use Rattle.fallowtime_words.specs.declared.command.Command.TheVariants.{Insert, Put, Replace, Get, Set, Unset, Update, ReplaceOne, Delete, FindAndUpdate, FindAndReplace, FindAndDelete, Remove, Find, Count, Distinct, Aggregate, Import, Export, Drop, Rename, Copy, Collections, Check, Backup, Apply, Index, DropIndex, Version, ImportAll, ExportAll, Edit}
 use Rattle.fallowtime_words.specs.declared.options.Given.{Given}
 use Rattle.fallowtime_words.specs.declared.options.Options.{Options}
 use Rattle.fallowtime_words.specs.declared.table.Argument.{Argument}
-use Rattle.fallowtime_words.specs.declared.table.Argument.TheVariants.{Collection, Document, Id, Key, Value, Query, Selection, Update as Change, Options as Further, Documents, IndexPath, NewName, File, Folder}
+use Rattle.fallowtime_words.specs.declared.table.Argument.TheVariants.{Collection, Document, Id, Key, Value, Query, Selection, Update as Change, Options as Further, Pipeline, Documents, IndexPath, NewName, File, Folder}
 use Rattle.fallowtime_words.proofs.OptionLemmas.{options_follow, cut}
 use Rattle.fallowtime_words.proofs.GatherLemmas.{one_lead, not_empty, same_gathered}
 
@@ -31,6 +31,7 @@ command_is Remove = refl
 command_is Find = refl
 command_is Count = refl
 command_is Distinct = refl
+command_is Aggregate = refl
 command_is Import = refl
 command_is Export = refl
 command_is Drop = refl
@@ -68,6 +69,7 @@ no_option_name Remove (rest, e) = let first : 114 ≡ 45 = ap (λ w. slice_index
 no_option_name Find (rest, e) = let first : 102 ≡ 45 = ap (λ w. slice_index w 0) e in absurd (omega (arith, first))
 no_option_name Count (rest, e) = let first : 99 ≡ 45 = ap (λ w. slice_index w 0) e in absurd (omega (arith, first))
 no_option_name Distinct (rest, e) = let first : 100 ≡ 45 = ap (λ w. slice_index w 0) e in absurd (omega (arith, first))
+no_option_name Aggregate (rest, e) = let first : 97 ≡ 45 = ap (λ w. slice_index w 0) e in absurd (omega (arith, first))
 no_option_name Import (rest, e) = let first : 105 ≡ 45 = ap (λ w. slice_index w 0) e in absurd (omega (arith, first))
 no_option_name Export (rest, e) = let first : 101 ≡ 45 = ap (λ w. slice_index w 0) e in absurd (omega (arith, first))
 no_option_name Drop (rest, e) = let first : 100 ≡ 45 = ap (λ w. slice_index w 0) e in absurd (omega (arith, first))
@@ -123,6 +125,7 @@ as_many_last words taken taken' given given' e e' m m' Key h h' = h ∙ sym h'
 as_many_last words taken taken' given given' e e' m m' Value h h' = h ∙ sym h'
 as_many_last words taken taken' given given' e e' m m' Selection h h' = h ∙ sym h'
 as_many_last words taken taken' given given' e e' m m' Change h h' = h ∙ sym h'
+as_many_last words taken taken' given given' e e' m m' Pipeline h h' = h ∙ sym h'
 as_many_last words taken taken' given given' e e' m m' IndexPath h h' = h ∙ sym h'
 as_many_last words taken taken' given given' e e' m m' NewName h h' = h ∙ sym h'
 as_many_last words taken taken' given given' e e' m m' File h h' = h ∙ sym h'

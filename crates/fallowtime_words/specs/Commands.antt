@@ -2,10 +2,10 @@
 use Rattle.std.specs.Prelude.{◌≡◌, ◌⊎◌, ℕ, List, [], ◌∷◌, ◌++◌, length, codes, if◌then◌else◌, true, false, Option, Some, None}
 use Rattle.std.specs.Str.{bytes_eq}
 use Rattle.fallowtime_words.specs.declared.command.Command.{Command}
-use Rattle.fallowtime_words.specs.declared.command.Command.TheVariants.{Insert, Put, Replace, Get, Set, Unset, Update, ReplaceOne, Delete, FindAndUpdate, FindAndReplace, FindAndDelete, Remove, Find, Count, Distinct, Import, Export, Drop, Rename, Copy, Collections, Check, Backup, Apply, Index, DropIndex, Version, ImportAll, ExportAll, Edit}
+use Rattle.fallowtime_words.specs.declared.command.Command.TheVariants.{Insert, Put, Replace, Get, Set, Unset, Update, ReplaceOne, Delete, FindAndUpdate, FindAndReplace, FindAndDelete, Remove, Find, Count, Distinct, Aggregate, Import, Export, Drop, Rename, Copy, Collections, Check, Backup, Apply, Index, DropIndex, Version, ImportAll, ExportAll, Edit}
 use Rattle.fallowtime_words.specs.declared.table.Allowed.{Allowed}
 use Rattle.fallowtime_words.specs.declared.table.Argument.{Argument}
-use Rattle.fallowtime_words.specs.declared.table.Argument.TheVariants.{Collection, Document, Id, Key, Value, Query, Selection, Update as Change, Options, Documents, IndexPath, NewName, File, Folder}
+use Rattle.fallowtime_words.specs.declared.table.Argument.TheVariants.{Collection, Document, Id, Key, Value, Query, Selection, Update as Change, Options, Pipeline, Documents, IndexPath, NewName, File, Folder}
 use Rattle.fallowtime_words.specs.declared.table.Effect.{Effect}
 use Rattle.fallowtime_words.specs.declared.table.Effect.TheVariants.{Reads, Changes, Makes}
 use Rattle.fallowtime_words.specs.declared.table.Place.{Place}
@@ -13,7 +13,7 @@ use Rattle.fallowtime_words.specs.declared.table.Place.TheVariants.{Both, Comman
 
 -- in the order of the help
 abbrev pub commands : List Command
-commands = Insert ∷ Put ∷ Replace ∷ Get ∷ Set ∷ Unset ∷ Update ∷ ReplaceOne ∷ Delete ∷ FindAndUpdate ∷ FindAndReplace ∷ FindAndDelete ∷ Remove ∷ Find ∷ Count ∷ Distinct ∷ Import ∷ Export ∷ Drop ∷ Rename ∷ Copy ∷ Collections ∷ Check ∷ Backup ∷ Apply ∷ Index ∷ DropIndex ∷ Version ∷ ImportAll ∷ ExportAll ∷ Edit ∷ []
+commands = Insert ∷ Put ∷ Replace ∷ Get ∷ Set ∷ Unset ∷ Update ∷ ReplaceOne ∷ Delete ∷ FindAndUpdate ∷ FindAndReplace ∷ FindAndDelete ∷ Remove ∷ Find ∷ Count ∷ Distinct ∷ Aggregate ∷ Import ∷ Export ∷ Drop ∷ Rename ∷ Copy ∷ Collections ∷ Check ∷ Backup ∷ Apply ∷ Index ∷ DropIndex ∷ Version ∷ ImportAll ∷ ExportAll ∷ Edit ∷ []
 
 abbrev pub command_name : Command → List ℕ
 command_name Insert = codes "insert"
@@ -32,6 +32,7 @@ command_name Remove = codes "remove"
 command_name Find = codes "find"
 command_name Count = codes "count"
 command_name Distinct = codes "distinct"
+command_name Aggregate = codes "aggregate"
 command_name Import = codes "import"
 command_name Export = codes "export"
 command_name Drop = codes "drop"
@@ -74,6 +75,7 @@ arguments Remove = Collection ∷ Id ∷ []
 arguments Find = Collection ∷ Query ∷ []
 arguments Count = Collection ∷ Query ∷ []
 arguments Distinct = Collection ∷ IndexPath ∷ Query ∷ []
+arguments Aggregate = Collection ∷ Pipeline ∷ []
 arguments Import = Collection ∷ Documents ∷ []
 arguments Export = Collection ∷ []
 arguments Drop = Collection ∷ []

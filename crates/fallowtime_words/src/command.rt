@@ -46,6 +46,8 @@ pub enum Command {
     Count,
     /// `distinct COLL PATH [QUERY]`: prints the different values at a path of the selected documents.
     Distinct,
+    /// `aggregate COLL PIPELINE`: prints the documents that the stages of a pipeline make of those of the collection.
+    Aggregate,
     /// `import COLL`: takes in documents from standard input, all or none, and prints their number. With `--upsert` they
     /// take the place of those with their `_id`s, and with `--skip-existing` these stay.
     Import,

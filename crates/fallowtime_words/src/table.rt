@@ -23,6 +23,8 @@ pub enum Argument {
     Update,
     /// OPTIONS: an object of options, which may be left out. On a command line the options are words of their own.
     Options,
+    /// PIPELINE: an array of the stages that make documents of others.
+    Pipeline,
     /// DOCS: bytes of BSON, or an array of documents. On a command line it is the standard input.
     Documents,
     /// PATH of an index or of values: keys with dots between them.
@@ -188,7 +190,7 @@ const DROPS: Allowed = Allowed {
 };
 
 /// The commands, in the order of the help.
-pub const TABLE: [Signature; 31] = [
+pub const TABLE: [Signature; 32] = [
     Signature {
         command: Command::Insert,
         name: "insert",
@@ -350,6 +352,15 @@ pub const TABLE: [Signature; 31] = [
         effect: Effect::Reads,
         place: Place::Both,
         about: "prints the different values at a path",
+    },
+    Signature {
+        command: Command::Aggregate,
+        name: "aggregate",
+        arguments: &[Argument::Collection, Argument::Pipeline],
+        options: NO_OPTION,
+        effect: Effect::Reads,
+        place: Place::Both,
+        about: "prints what a pipeline makes of the documents",
     },
     Signature {
         command: Command::Import,

@@ -26,3 +26,8 @@ pub returns-in-Distinct-clause-reads : goal.returns-in-Distinct-clause-reads
 returns-in-Distinct-clause-reads g c =
     if_told c.told-in-Distinct.result c.values.result (λ o. Reads g.P.Pages c.args.store.now c.distinct_in_pages-outcome.new.store (Performs c.args.name.now c.args.request.now o)) c.told-in-Distinct.ensures
     (rw (c.in-Distinct.is, c.values.ensures.reply) (λ clean docs are. differing c.args.name.now (form_of c.in-Distinct.question) c.in-Distinct.path.items c.in-Distinct.counts _ c.as_slice.ensures.value docs docs c.distinct_in_pages-outcome.result (c.distinct_in_pages-outcome.ensures.reads clean docs are)))
+
+pub returns-in-Aggregate-clause-reads : goal.returns-in-Aggregate-clause-reads
+returns-in-Aggregate-clause-reads g c =
+    if_told c.told-in-Aggregate.result c.aggregate_in_pages.result (λ o. Reads g.P.Pages c.args.store.now c.aggregate_in_pages.new.store (Performs c.args.name.now c.args.request.now o)) c.told-in-Aggregate.ensures
+    (rw c.in-Aggregate.is (rw c.as_slice-in-Aggregate.ensures.value at c.aggregate_in_pages.ensures.reads))

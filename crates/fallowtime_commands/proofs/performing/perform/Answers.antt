@@ -1,6 +1,4 @@
 use Rattle.bson_store.specs.Calls.{store_state}
-use Rattle.store_question.specs.Reads.{form_of}
-use Rattle.fallowtime_commands.proofs.AskLemmas.{counted, counted_all, differs, found}
 use Rattle.fallowtime_commands.proofs.IndexLemmas.{indexed}
 use Rattle.fallowtime_commands.proofs.performing.perform.Goals as goal
 
@@ -21,9 +19,6 @@ returns-in-Replace-clause-moves g c = rw (c.in-Replace.is, c.nothing-in-Replace.
 
 pub returns-in-Replace-clause-crash : goal.returns-in-Replace-clause-crash
 returns-in-Replace-clause-crash g c = rw (c.in-Replace.is, c.nothing-in-Replace.ensures.reply) c.replace.ensures.crash
-
-pub returns-in-Get-clause-moves : goal.returns-in-Get-clause-moves
-returns-in-Get-clause-moves g c = rw (c.in-Get.is, c.document.ensures.reply) c.get_raw.ensures.moves
 
 pub returns-in-Set-clause-moves : goal.returns-in-Set-clause-moves
 returns-in-Set-clause-moves g c = rw (c.in-Set.is, c.nothing-in-Set.ensures.reply) (rw c.replace-value.ensures.value at c.set.ensures.moves)
@@ -61,23 +56,11 @@ returns-in-Remove-clause-moves g c = rw (c.in-Remove.is, c.nothing-in-Remove.ens
 pub returns-in-Remove-clause-crash : goal.returns-in-Remove-clause-crash
 returns-in-Remove-clause-crash g c = rw (c.in-Remove.is, c.nothing-in-Remove.ensures.reply) c.remove.ensures.crash
 
-pub returns-in-Find-clause-moves : goal.returns-in-Find-clause-moves
-returns-in-Find-clause-moves g c =
-    rw (c.in-Find.is, c.documents.ensures.reply) (found c.args.name.now (form_of c.in-Find.question) c.in-Find.wanted (store_state g.S.Store c.args.store.now) (store_state g.S.Store c.find_wanted.new.store) c.find_wanted.result c.find_wanted.ensures.moves)
-
 pub returns-in-FindAndChange-clause-moves : goal.returns-in-FindAndChange-clause-moves
 returns-in-FindAndChange-clause-moves g c = rw c.in-FindAndChange.is c.find_and_change.ensures.moves
 
 pub returns-in-FindAndChange-clause-crash : goal.returns-in-FindAndChange-clause-crash
 returns-in-FindAndChange-clause-crash g c = rw c.in-FindAndChange.is c.find_and_change.ensures.crash
-
-pub returns-in-Count-clause-moves : goal.returns-in-Count-clause-moves
-returns-in-Count-clause-moves g c =
-    rw (c.in-Count.is, c.number.ensures.reply) (counted c.args.name.now (form_of c.in-Count.question) c.in-Count.part (store_state g.S.Store c.args.store.now) (store_state g.S.Store c.count_part.new.store) c.count_part.result c.count_part.ensures.moves)
-
-pub returns-in-Distinct-clause-moves : goal.returns-in-Distinct-clause-moves
-returns-in-Distinct-clause-moves g c =
-    rw (c.in-Distinct.is, c.values.ensures.reply) (differs c.args.name.now (form_of c.in-Distinct.question) c.in-Distinct.path.items c.in-Distinct.counts _ c.as_slice-in-Distinct.ensures.value (store_state g.S.Store c.args.store.now) (store_state g.S.Store c.distinct.new.store) c.distinct.result c.distinct.ensures.moves)
 
 pub returns-in-Import-clause-moves : goal.returns-in-Import-clause-moves
 returns-in-Import-clause-moves g c = rw c.in-Import.is (rw c.as_slice-in-Import.ensures.value at c.import.ensures.moves)
@@ -98,10 +81,3 @@ returns-in-Index-clause-moves g c =
 pub returns-in-DropIndex-clause-moves : goal.returns-in-DropIndex-clause-moves
 returns-in-DropIndex-clause-moves g c =
     rw (c.in-DropIndex.is, c.nothing-in-DropIndex.ensures.reply) (indexed c.args.name.now (store_state g.S.Store c.args.store.now) (store_state g.S.Store c.drop_index.new.self) c.drop_index.result c.drop_index.ensures.moves)
-
-pub returns-in-Collections-clause-moves : goal.returns-in-Collections-clause-moves
-returns-in-Collections-clause-moves g c = rw (c.in-Collections.is, c.names.ensures.reply) c.collections.ensures.moves
-
-pub returns-in-Check-clause-moves : goal.returns-in-Check-clause-moves
-returns-in-Check-clause-moves g c =
-    rw (c.in-Check.is, c.number-in-Check.ensures.reply) (counted_all (store_state g.S.Store c.args.store.now) (store_state g.S.Store c.total.new.store) c.total.result c.total.ensures.moves)

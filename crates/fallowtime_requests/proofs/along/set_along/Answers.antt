@@ -6,7 +6,7 @@ use Rattle.store_update.specs.Plan.{sets}
 use Rattle.fallowtime_requests.proofs.AlongLemmas.{becomes_update}
 use Rattle.fallowtime_requests.proofs.along.set_along.Goals as goal
 
-pub returns : goal.returns
-returns c =
-    becomes_update (has_dot c.args.key.now) (request.Set c.args.id c.args.key c.args.value) c.args.id false (codes "$set") c.args.key.now (sets (view c.args.value)) c.in_ok-steps.steps
-    (search rules) (c.in_ok-steps.ensures (codes "$set") c.args.key.now c.in_ok-keys.ensures)
+pub returns-in-Ok : goal.returns-in-Ok
+returns-in-Ok c =
+    becomes_update (has_dot c.args.key.now) (request.Set c.args.id c.args.key c.args.value) c.args.id false (codes "$set") c.args.key.now (sets (view c.args.value)) c.in-Ok.steps
+    (search rules) c.in-Ok.ensures

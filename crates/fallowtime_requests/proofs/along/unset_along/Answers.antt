@@ -5,7 +5,7 @@ use Rattle.store_update.specs.Plan.{unsets}
 use Rattle.fallowtime_requests.proofs.AlongLemmas.{becomes_update}
 use Rattle.fallowtime_requests.proofs.along.unset_along.Goals as goal
 
-pub returns : goal.returns
-returns c =
-    becomes_update (has_dot c.args.key.now) (request.Unset c.args.id c.args.key) c.args.id true (codes "$unset") c.args.key.now unsets c.in_ok-steps.steps
-    (search rules) (c.in_ok-steps.ensures (codes "$unset") c.args.key.now c.in_ok-keys.ensures)
+pub returns-in-Ok : goal.returns-in-Ok
+returns-in-Ok c =
+    becomes_update (has_dot c.args.key.now) (request.Unset c.args.id c.args.key) c.args.id true (codes "$unset") c.args.key.now unsets c.in-Ok.steps
+    (search rules) c.in-Ok.ensures

@@ -1,7 +1,7 @@
 use Rattle.std.proofs.Common.{◌≡◌, [], drop}
 use Rattle.json.specs.Value.{members_view}
 use Rattle.store_sorted.specs.Bodies.{keys_of}
-use Rattle.fallowtime_requests.specs.Arranging.{keys_behind}
+use Rattle.fallowtime_requests.specs.Orders.{keys_behind}
 use Rattle.fallowtime_requests.proofs.arranging.keys_among.Given as goal
 
 abbrev pub invariant-loop-name : goal.invariant-loop-name

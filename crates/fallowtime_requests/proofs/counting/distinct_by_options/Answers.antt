@@ -1,4 +1,4 @@
-use Rattle.std.proofs.Common.{◌≡◌, ℕ, List, sym}
+use Rattle.std.proofs.Common.{◌≡◌, ℕ, List, inr, refl, sym}
 use Rattle.fallowtime_requests.specs.Inputs.{Given}
 use Rattle.fallowtime_requests.specs.Requests.{Asks}
 use Rattle.fallowtime_requests.specs.declared.reading.Layout.{Layout}
@@ -17,7 +17,10 @@ pub returns-in-Some-clause-asked : goal.returns-in-Some-clause-asked
 returns-in-Some-clause-asked c =
     (c.in_ok-question.question.request, c.in-Some.counts, rw (c.counted.ensures.1, c.counted.ensures.2) c.in_ok-question.ensures.asked, sym c.in-Some.ensures, c.counted.ensures.0)
 
-pub returns-clause-maker : goal.returns-clause-maker
-returns-clause-maker c =
+pub returns-in-None-clause-asked : goal.returns-in-None-clause-asked
+returns-in-None-clause-asked c = rw c.given_up.ensures (inr (inr (sym c.in-None.ensures, refl)))
+
+pub returns-in-None-clause-maker : goal.returns-in-None-clause-maker
+returns-in-None-clause-maker c =
     let q = c.in_ok-question.question in
-    same_maker c.args.maker.now c.question_of_items.new.maker _ q.collection.now q.request q.layout c.in_ok-question.ensures.asked
+    rw c.given_up.ensures (same_maker c.args.maker.now c.question_of_items.new.maker _ q.collection.now q.request q.layout c.in_ok-question.ensures.asked)

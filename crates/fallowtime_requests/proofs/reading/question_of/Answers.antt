@@ -103,6 +103,12 @@ returns-in-Distinct-clause-asked c = by_command c.args.maker.now c.args.command 
 pub returns-in-Distinct-clause-maker : goal.returns-in-Distinct-clause-maker
 returns-in-Distinct-clause-maker c = λ other. stays c.args.maker.now c.distinct.result
 
+pub returns-in-Aggregate-clause-asked : goal.returns-in-Aggregate-clause-asked
+returns-in-Aggregate-clause-asked c = by_command c.args.maker.now c.args.command command.Aggregate (map seen c.args.arguments.now) c.aggregate.result c.in-Aggregate.is c.aggregate.ensures
+
+pub returns-in-Aggregate-clause-maker : goal.returns-in-Aggregate-clause-maker
+returns-in-Aggregate-clause-maker c = λ other. stays c.args.maker.now c.aggregate.result
+
 pub returns-in-Export-clause-asked : goal.returns-in-Export-clause-asked
 returns-in-Export-clause-asked c = by_command c.args.maker.now c.args.command command.Export (map seen c.args.arguments.now) c.export.result c.in-Export.is c.export.ensures
 

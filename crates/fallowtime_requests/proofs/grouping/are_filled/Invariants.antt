@@ -1,0 +1,8 @@
+use Rattle.std.proofs.Common.{◌≡◌, drop}
+use Rattle.std.specs.List.{list_all}
+use Rattle.store_filter.specs.Filters.{path_of}
+use Rattle.fallowtime_requests.specs.Staging.{is_filled}
+use Rattle.fallowtime_requests.proofs.grouping.are_filled.Given as goal
+
+abbrev pub invariant-loop-key : goal.invariant-loop-key
+invariant-loop-key l = list_all is_filled (path_of l.keys) ≡ list_all is_filled (path_of (drop l.key-index l.keys))

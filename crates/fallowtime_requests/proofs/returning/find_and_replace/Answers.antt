@@ -1,0 +1,18 @@
+use Rattle.std.proofs.Common.{map, refl}
+use Rattle.std.proofs.lemmas.Result.{err_from_is_err_and}
+use Rattle.fallowtime_words.specs.declared.command.Command.TheVariants as command
+use Rattle.fallowtime_requests.specs.Inputs.{seen}
+use Rattle.fallowtime_requests.specs.declared.request.Request.TheVariants as request
+use Rattle.fallowtime_requests.specs.declared.request.Work.TheVariants as work
+use Rattle.fallowtime_requests.proofs.AskLemmas.{asks}
+use Rattle.fallowtime_requests.proofs.returning.find_and_replace.Goals as goal
+
+pub returns : goal.returns
+returns c =
+    λ m. asks m m command.FindAndReplace (map seen c.args.arguments.now) c.plain.result c.in_ok-collection.collection (request.FindAndChange c.in_ok-collection.question c.all_of.result (work.Replace c.in_ok-collection.document)) c.plain.ensures
+    (c.in_ok-collection.ensures m, c.all_of.ensures, refl, refl)
+
+pub returns-in_err-collection : goal.returns-in_err-collection
+returns-in_err-collection c =
+    let p = err_from_is_err_and c.from_residual.result c.from_residual.ensures.1 in
+    rw (p.1, p.2) (λ m. c.in_err-collection.ensures m)
