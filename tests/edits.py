@@ -37,7 +37,7 @@ def fault_of(edit):
             if count != 1:
                 return f"{path} has {count} times, and not once: {old}"
             texts[path], old = texts[path].replace(old, text), None
-        elif line.strip() and not line.startswith(("#", "--", "//")):
+        elif word != "goal:" and line.strip() and not line.startswith(("#", "--", "//")):
             return f"a line that isn't read: {line}"
     if old is not None:
         return "a line `old:` without a line `new:` behind it"

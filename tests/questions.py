@@ -555,10 +555,9 @@ class Lines:
             sort = self.random.randrange(10)
             if sort == 0 and depth < 2:
                 entries[self.random.choice(sorted(LOGICAL))] = "[%s]" % ",".join(self.query(depth + 1) for _ in range(self.some(1, 2)))
-            elif sort < 5:
-                entries[self.path()] = self.operand()
             else:
-                entries[self.path()] = self.operators(depth)
+                path = self.path()
+                entries[path] = self.operand() if sort < 5 else self.operators(depth)
         return "{%s}" % ",".join(f'"{key}":{body}' for key, body in entries.items())
 
     def line(self):

@@ -7,7 +7,7 @@ evaluation that is written from it, over values as Python has them.
                                            of cases/
 
 It ends with status 1 if an answer differs. What is refused here and not there, and the names of refusals, are those of
-crates/store_update and crates/store_update_read.
+crates/store_update and crates/store_question_read.
 """
 import datetime
 import decimal

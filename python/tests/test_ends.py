@@ -221,7 +221,7 @@ insert(int(sys.argv[1]))
             return self.open()
 
     def test_programs_that_are_made_up(self):
-        for script, text in [("cat", "no object of JSON"), ("echo '{}'; exec cat", "isn't the program fallowtime"),
+        for script, text in [("cat", "no object of JSON"), ("echo '{}'; exec sleep 60", "isn't the program fallowtime"),
                              ("echo hello; exec cat", "no object of JSON"),
                              ("exit 0", "status 0"), ("exec 1>&-; sleep 60", "status -15"),
                              (f"{ANSWER}; read line; printf '{{\"error\"'", "status 0")]:

@@ -13,3 +13,7 @@ pub mod ApartLemmas
 pub mod WritingLemmas
 pub mod WrittenLemmas
 pub mod ZeroLemmas
+mod AscentLemmas
+mod PayloadLemmas
+mod TurnLemmas
+mod ValueLemmas

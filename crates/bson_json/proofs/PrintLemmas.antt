@@ -12,7 +12,7 @@ use Rattle.json.specs.Tree.{json_tokens, items_tokens, members_tokens}
 use Rattle.json.specs.Written.{Written}
 use Rattle.json.proofs.Printed.Floats.{IsNumber-plain}
 use Rattle.json.proofs.Printed.Trees.{value-json_tokens}
-use Rattle.double_text.specs.DoubleText.{IsDoubleText, IsNumeralOf, is_finite}
+use Rattle.bson_json_read.specs.DoubleText.{IsDoubleText, IsNumeralOf, is_finite}
 use Rattle.bson_base.specs.Doubles as doubles
 use Rattle.ryu.specs.Plain.{IsLaidOutNumber}
 use Rattle.std.specs.Fmt.{sign_text}

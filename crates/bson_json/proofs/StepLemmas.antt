@@ -1,14 +1,15 @@
 -- One turn of a loop over members or items, and what is written at their ends.
-use Rattle.std.proofs.Common.{◌≡◌, ℕ, Bool, true, false, ◌||◌, List, [], ◌∷◌, ◌++◌, Option, Some, None, Result, Ok, OnOk, refl, sym, ap, ap₂, ◌∙◌, subst}
+use Rattle.std.proofs.Common.{◌≡◌, ℕ, Bool, true, false, ◌||◌, List, [], ◌∷◌, ◌++◌, Option, Some, None, Result, Ok, Err, OnOk, refl, sym, ap, ap₂, ◌∙◌, subst}
 use Rattle.std.specs.Prelude.{option_map, option_and_then}
 use Rattle.std.proofs.lemmas.Result.{on_ok_weaker}
 use Rattle.std.specs.Borrow.{Bor}
 use Rattle.std.specs.List.{AllByRecursion}
-use Rattle.json.specs.Token.{begin_array, end_array, begin_object, end_object, key, string}
+use Rattle.json.specs.Token.{Token, begin_array, end_array, begin_object, end_object, key, string}
 use Rattle.json.specs.Json as json
 use Rattle.json.specs.Json.{Json, object}
 use Rattle.json.specs.Tree.{json_tokens, items_tokens, members_tokens}
 use Rattle.json.specs.Written.{Written}
+use Rattle.json.specs.Written as writer
 use Rattle.serde_json.specs.Data as sorted
 use Rattle.serde_json.specs.Data.{Data}
 use Rattle.serde_json.specs.Written.{members_outline}
@@ -59,6 +60,22 @@ one_form style r s j old new is w a = subst (λ x. AddsLeaf style x old new) (sy
 -- a scalar that a helper printed
 pub one_scalar : (style : Style) (r : RawBsonRef) (s : Scalar) (old new : Written) → ref_value r ≡ raw.leaf s → AddsScalar style s old new → AddsLeaf style (ref_value r) old new
 one_scalar style r s old new is a = subst (λ x. AddsLeaf style x old new) (sym is) (record { form = a.form; is_form = a.is_form; adds = a.adds })
+
+-- what a call of the writer added
+pub token_adds : {E : Type 0} (q : Result (Unit {0}) E) (old new : Written) (t : Token) → writer.Writes q old new t → OnOk q (Adds (t ∷ []) old new)
+token_adds (Ok u) old new t w = (w.ok, w.room.0)
+token_adds (Err e) old new t w = tt
+
+-- the same where several arms join: `q` is what the call of one of them returned, `p` what they join in
+pub joined_form : {E : Type 0} (style : Style) (r : RawBsonRef) (s : Scalar) (j : Json) (p q : Result (Unit {0}) E) (u : Unit {0}) (old new out : Written) → ref_value r ≡ raw.leaf s → HasForm style (scalar s) j → p ≡ q → p ≡ Ok u → out ≡ new → OnOk q (Adds (json_tokens j) old new) → AddsLeaf style (ref_value r) old out
+joined_form style r s j p q u old new out is w arm ok at told =
+    let adds : Adds (json_tokens j) old new = subst (λ x. OnOk x (Adds (json_tokens j) old new)) (sym arm ∙ ok) told in
+    one_form style r s j old out is w (subst (λ o. Adds (json_tokens j) old o) (sym at) adds)
+
+pub joined_scalar : {E : Type 0} (style : Style) (r : RawBsonRef) (s : Scalar) (p q : Result (Unit {0}) E) (u : Unit {0}) (old new out : Written) → ref_value r ≡ raw.leaf s → p ≡ q → p ≡ Ok u → out ≡ new → OnOk q (AddsScalar style s old new) → AddsLeaf style (ref_value r) old out
+joined_scalar style r s p q u old new out is arm ok at told =
+    let adds : AddsScalar style s old new = subst (λ x. OnOk x (AddsScalar style s old new)) (sym arm ∙ ok) told in
+    one_scalar style r s old out is (subst (λ o. AddsScalar style s old o) (sym at) adds)
 
 pub double_leaf : (style : Style) (r : RawBsonRef) (s : Scalar) (q : Result (Unit {0}) Unwritten) (old new : Written) → ref_value r ≡ raw.leaf s → OnOk q (AddsScalar style s old new) → OnOk q (AddsLeaf style (ref_value r) old new)
 double_leaf style r s q old new is = on_ok_weaker q (one_scalar style r s old new is)

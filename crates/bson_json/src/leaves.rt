@@ -87,26 +87,28 @@ pub(crate) fn print_leaf(
     ensures seen { IfErr result (IfUnseen ((inner : ℕ) (v : Value) → SpellsRawValue (ref_value value.entry) v
         → IsStraight style inner v → ⊥)) }
 {
-    match value {
-        RawBsonRef::Double(double) => print_double_in(out, double, style),
-        RawBsonRef::String(text) => Ok(out.string(text)?),
-        RawBsonRef::Boolean(truth) => Ok(out.boolean(truth)?),
-        RawBsonRef::Null => Ok(out.null()?),
-        RawBsonRef::RegularExpression(regex) => Ok(print_regex_in(alloc, out, regex, style)?),
-        RawBsonRef::JavaScriptCode(code) => Ok(wrap_text(out, "$code", code)?),
-        RawBsonRef::Int32(number) => Ok(print_int(out, number, style.mode())?),
-        RawBsonRef::Int64(number) => Ok(print_long(out, number, style.mode())?),
-        RawBsonRef::Timestamp(timestamp) => Ok(print_timestamp_in(out, timestamp, style)?),
-        RawBsonRef::Binary(bytes) => Ok(print_binary(alloc, out, &bytes.to_binary(alloc)?)?),
-        RawBsonRef::ObjectId(id) => Ok(print_id(out, &id)?),
-        RawBsonRef::DateTime(moment) => Ok(print_date(alloc, out, moment, style.mode())?),
-        RawBsonRef::Symbol(text) => Ok(wrap_text(out, "$symbol", text)?),
-        RawBsonRef::Decimal128(decimal) => Ok(print_decimal(alloc, out, &decimal)?),
-        RawBsonRef::Undefined => Ok(print_undefined(out)?),
-        RawBsonRef::MaxKey => Ok(print_bound(out, "$maxKey")?),
-        RawBsonRef::MinKey => Ok(print_bound(out, "$minKey")?),
-        RawBsonRef::DbPointer(pointer) => Ok(print_pointer_in(out, pointer, style)?),
-        RawBsonRef::Document(_) | RawBsonRef::Array(_) | RawBsonRef::JavaScriptCodeWithScope(_) =>
-            unreachable!(),
-    }
+    let printed = match value {
+        RawBsonRef::Double(double) => return print_double_in(out, double, style),
+        RawBsonRef::String(text) => out.string(text),
+        RawBsonRef::Boolean(truth) => out.boolean(truth),
+        RawBsonRef::Null => out.null(),
+        RawBsonRef::RegularExpression(regex) => print_regex_in(alloc, out, regex, style),
+        RawBsonRef::JavaScriptCode(code) => wrap_text(out, "$code", code),
+        RawBsonRef::Int32(number) => print_int(out, number, style.mode()),
+        RawBsonRef::Int64(number) => print_long(out, number, style.mode()),
+        RawBsonRef::Timestamp(timestamp) => print_timestamp_in(out, timestamp, style),
+        RawBsonRef::Binary(bytes) => print_binary(alloc, out, &bytes.to_binary(alloc)?),
+        RawBsonRef::ObjectId(id) => print_id(out, &id),
+        RawBsonRef::DateTime(moment) => print_date(alloc, out, moment, style.mode()),
+        RawBsonRef::Symbol(text) => wrap_text(out, "$symbol", text),
+        RawBsonRef::Decimal128(decimal) => print_decimal(alloc, out, &decimal),
+        RawBsonRef::Undefined => print_undefined(out),
+        RawBsonRef::MaxKey => print_bound(out, "$maxKey"),
+        RawBsonRef::MinKey => print_bound(out, "$minKey"),
+        RawBsonRef::DbPointer(pointer) => print_pointer_in(out, pointer, style),
+        RawBsonRef::Document(_) | RawBsonRef::Array(_) | RawBsonRef::JavaScriptCodeWithScope(_) => {
+            unreachable!()
+        }
+    };
+    Ok(printed?)
 }

@@ -2,7 +2,9 @@
 #![tactic(auto)]
 
 mod bodies;
+pub mod double_text;
 mod error;
+pub mod laws;
 mod reading;
 mod texts;
 

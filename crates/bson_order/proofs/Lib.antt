@@ -4,3 +4,7 @@ pub mod TurnLemmas
 pub mod MeaningLemmas
 pub mod TextLemmas
 pub mod TreeLemmas
+pub mod SizeLemmas
+pub mod DigitLemmas
+pub mod WholeLemmas
+pub mod DoubleLemmas

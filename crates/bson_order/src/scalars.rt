@@ -5,8 +5,8 @@ ghost use Rattle.std.specs.Ordering.{nat_cmp};
 ghost use Rattle.std.specs.Cmp.Lexicographic.{slice_cmp};
 ghost use Rattle.bson_meaning.specs.Views.{view_scalar};
 ghost use Rattle.bson_bytes.specs.Encode.{is_old};
-ghost use Rattle.bson_numbers.specs.Sizes.{IsNumber, place_of};
-ghost use Rattle.bson_numbers.specs.Wholes.{number_place, part_of};
+ghost use Rattle.bson_order.specs.Sizes.{IsNumber, place_of};
+ghost use Rattle.bson_order.specs.Wholes.{number_place, part_of};
 ghost use Rattle.bson_base.specs.Value.{Value};
 ghost use Rattle.bson_raw.specs.Convert.{SpellsRawValue};
 ghost use Rattle.bson_raw.specs.Raw.{ref_value};
@@ -14,8 +14,8 @@ ghost use Rattle.bson_order.specs.Order.{is_no_number, parts, parts_key, nothing
 ghost use Rattle.bson_order.specs.Shown.{seen};
 
 use crate::ranks::rank_of;
+use crate::{Number, compare_numbers, decimal, double, whole, whole_part};
 use bson_base::BinarySubtype;
-use bson_numbers::{Number, compare_numbers, decimal, double, whole, whole_part};
 use bson_raw::{RawBinaryRef, RawBsonRef};
 use std::cmp::Ordering;
 

@@ -4,8 +4,8 @@ use Rattle.std.specs.Prelude.{MatchOption}
 use Rattle.sqlite.specs.State.{State}
 use Rattle.bson_base.specs.Value.{Members, document}
 use Rattle.bson_bytes.specs.Encode.{encode}
-use Rattle.store_filter.specs.Filters.{filter_of, path_of}
-use Rattle.store_index.specs.Asking.{Spares, TookAsked, VisitsAsked, bodies_by}
+use Rattle.store_question.specs.Filters.{filter_of, path_of}
+use Rattle.bson_store.specs.Asking.{Spares, TookAsked, VisitsAsked, bodies_by}
 use Rattle.store_table.specs.Rows.{TableRow, is_in}
 use Rattle.store_table.specs.Moves.{Moves}
 use Rattle.store_table.specs.declared.fault.Fault.{Fault}

@@ -17,7 +17,7 @@ use Rattle.store_model.specs.declared.error.StoreError.{StoreError}
 use Rattle.sqlite_trees.specs.declared.store.Store.{Ghosts}
 use Rattle.sqlite.specs.State.{State}
 use Rattle.sqlite.specs.Held.{Held}
-use Rattle.store_index.specs.Table.{AddsIndex as AddsTableIndex, HasIndex as TableHasIndex, KeepsIndexes as KeepsTableIndexes, LeavesIndexes, connection_of as table_connection, indexed_state as table_state}
+use Rattle.bson_store.specs.Table.{AddsIndex as AddsTableIndex, HasIndex as TableHasIndex, KeepsIndexes as KeepsTableIndexes, LeavesIndexes, connection_of as table_connection, indexed_state as table_state}
 use Rattle.bson_store.specs.declared.store.Store.{Store}
 
 -- a store's connection, and its state

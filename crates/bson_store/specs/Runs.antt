@@ -3,7 +3,7 @@ use Rattle.std.specs.Prelude.{◌≡◌, ℕ, List, [], ◌∷◌, Option, IsTru
 use Rattle.sqlite.specs.State.{State, HasCleanDisk}
 use Rattle.store_table.specs.Moves.{Stands}
 use Rattle.serde_json.specs.View.{view as data_of}
-use Rattle.store_filter.specs.Filters.{filter_of, path_of}
+use Rattle.store_question.specs.Filters.{filter_of, path_of}
 use Rattle.bson_model.specs.View.{view}
 use Rattle.store_table.specs.Rows.{TableRow}
 use Rattle.store_model.specs.Reading.{Documents, Reading, ReadsBytes, ReadsStream, ReadsTree, ReadsTrees, read_value}

@@ -3,8 +3,8 @@
 use bson_model::Bson;
 use bson_model::extjson::Mode;
 use serde_json::Value;
-use store_filter::Filter;
 use store_model::StoreError;
+use store_question::Filter;
 
 /// A call of the store: the one of its name.
 #[derive(Drop)]

@@ -3,7 +3,7 @@
 
 ghost use Rattle.std.specs.Prelude.{◌≡◌, ◌↔◌, ℕ, List, IsTrue, OnOk};
 ghost use Rattle.sqlite.specs.State.{HasCleanDisk};
-ghost use Rattle.store_filter.specs.Filters.{path_of};
+ghost use Rattle.store_question.specs.Filters.{path_of};
 ghost use Rattle.store_model.specs.Filter.{Path};
 ghost use Rattle.store_table.specs.Moves.{Stands, WasOpen};
 ghost use Rattle.store_table.specs.Rows.{TableRow};

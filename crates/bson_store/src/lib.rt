@@ -12,6 +12,7 @@ mod edit;
 mod error;
 mod export;
 mod import;
+pub mod indexed;
 mod indexing;
 pub mod meanings;
 mod names;
@@ -24,6 +25,7 @@ mod texts;
 mod walk;
 mod whole;
 
+pub use crate::indexed::{Front, Range};
 pub use batch::run;
 pub use bson_model::{
     Array, Binary, BinarySubtype, Bson, Counted, DateTime, DbPointer, Decimal128, DeviceFault,
@@ -47,8 +49,7 @@ pub use picking::{Copies, Count, Take, select_all, selected};
 pub use rows::push_row;
 pub use store::Store;
 pub use store_documents::Loader;
-pub use store_filter::{Filter, look_up, selects};
-pub use store_index::{Front, Range};
 pub use store_model::{ErrorKind, StoreError, laws};
+pub use store_question::{Filter, look_up, selects};
 pub use texts::TakeText;
 pub use whole::{apply_all, begin_draft, draft_edit, draft_edits, make_drafted};

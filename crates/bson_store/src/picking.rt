@@ -3,8 +3,8 @@
 ghost use Rattle.std.specs.Prelude.{◌≡◌, ◌++◌, ◌∷◌, [], IfErr, IsTrue, OnOk};
 ghost use Rattle.bson_base.specs.Value.{Members};
 ghost use Rattle.bson_bytes.specs.Encode.{encode};
-ghost use Rattle.store_filter.specs.Filters.{filter_of, path_of};
-ghost use Rattle.store_filter.specs.Views.{OfWritten};
+ghost use Rattle.store_question.specs.Filters.{filter_of, path_of};
+ghost use Rattle.store_question.specs.Views.{OfWritten};
 ghost use Rattle.bson_raw.specs.View.{bytes_of as view_bytes};
 ghost use Rattle.store_model.specs.Filter.{all_of, no_filters};
 ghost use Rattle.store_model.specs.Reading.{Documents};
@@ -16,8 +16,8 @@ ghost use Rattle.bson_store.specs.Refusals.{IsDenied};
 use crate::export::push_copy;
 use bson_raw::RawDocument;
 use std::alloc::{AllocError, Global};
-use store_filter::{Filter, project, selects};
 use store_model::{ErrorKind, StoreError};
+use store_question::{Filter, project, selects};
 use store_table::Visit;
 
 /// The filter that selects everything.
@@ -108,7 +108,7 @@ pub struct Projections<'a> {
 impl<'a> Take for Projections<'a> {
     ghost use Rattle.std.specs.Prelude.{◌≡◌, map};
     ghost use Rattle.bson_bytes.specs.Encode.{encode};
-    ghost use Rattle.store_filter.specs.Filters.{path_of};
+    ghost use Rattle.store_question.specs.Filters.{path_of};
     ghost use Rattle.store_model.specs.State.{only};
     ghost use Rattle.bson_store.specs.Export.{bytes_of_each};
 
@@ -180,7 +180,7 @@ pub struct FilterVisitor<'a, T> {
 
 impl<'a, T: Take> Visit for FilterVisitor<'a, T> {
     ghost use Rattle.std.specs.Prelude.{◌≡◌, ◌≢◌, ◌⊎◌, None};
-    ghost use Rattle.store_filter.specs.Filters.{filter_of};
+    ghost use Rattle.store_question.specs.Filters.{filter_of};
     ghost use Rattle.bson_store.specs.Questions.{GivesPicked, IsSettled};
 
     ghost took = { λ first v bodies. (v.filter.now ≡ first.filter.now)

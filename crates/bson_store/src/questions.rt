@@ -1,8 +1,8 @@
 //! Questions to collections: which there are, and what a filter selects of one.
 
 ghost use Rattle.std.specs.Prelude.{[]};
-ghost use Rattle.store_filter.specs.Filters.{filter_of, path_of};
-ghost use Rattle.store_index.specs.Fronts.{Passes};
+ghost use Rattle.store_question.specs.Filters.{filter_of, path_of};
+ghost use Rattle.bson_store.specs.Fronts.{Passes};
 ghost use Rattle.store_table.specs.Moves.{WasOpen};
 ghost use Rattle.store_documents.specs.Names.{name_bytes};
 ghost use Rattle.store_model.specs.State.{collections, count, find, on, project};
@@ -12,14 +12,14 @@ ghost use Rattle.bson_store.specs.Questions.{PassedFrom, Picked, PickedFrom, Pic
 ghost use Rattle.bson_store.specs.Refusals.{as_number, reply_by};
 
 use crate::error::fault_refusal;
+use crate::indexed::Front;
 use crate::names::names_of;
 use crate::picking::{Copies, Count, FilterVisitor, Projections, Take, select_all};
 use crate::store::{Store, good_name};
 use sqlite::Alter;
 use store_documents::Name;
-use store_filter::Filter;
-use store_index::Front;
 use store_model::StoreError;
+use store_question::Filter;
 
 impl<S: Alter + Drop> Store<S> {
     /// The names that hold a document, ascending by their bytes.

@@ -28,6 +28,7 @@ ghost use Rattle.store_model.specs.declared.error.ErrorKind.TheVariants.{BadName
 
 use crate::error::{fault_refusal, opening_refusal};
 use crate::export::ExportVisitor;
+use crate::indexed::IndexedTable;
 use crate::row_test::RowTest;
 use bson_bytes::put::has_no_zero;
 use bson_meaning::KeyError;
@@ -40,7 +41,6 @@ use store_documents::{
     ID_KEY, KeptRow, Name, body_with, body_without, json_of_body, key_of_id, row_of_bytes,
     row_of_json, value_of_json,
 };
-use store_index::IndexedTable;
 use store_model::{ErrorKind, StoreError};
 use store_table::{Fault, Found};
 

@@ -3,8 +3,8 @@ use Rattle.std.proofs.Common.{◌⊎◌, ◌≡◌, inl, inr, ℕ, None, Ok, Err
 use Rattle.bson_base.specs.Device.{Tally, TakesText}
 use Rattle.store_model.specs.Refusal.{refusal}
 use Rattle.store_model.specs.declared.error.ErrorKind.{ErrorKind}
-use Rattle.cli_words.specs.Lines.{complaint_line, refusal_line}
-use Rattle.cli_words.specs.declared.lines.UsageError.{UsageError}
+use Rattle.cli_commands.specs.Lines.{complaint_line, refusal_line}
+use Rattle.cli_commands.specs.declared.lines.UsageError.{UsageError}
 use Rattle.cli_commands.specs.declared.stop.Failure.TheVariants.{Refused, Words}
 use Rattle.bson_store_cli.specs.Serving.{ReportsSome}
 

@@ -9,14 +9,14 @@ use Rattle.fallowtime_commands.specs.declared.answer.Answer.{Answer}
 use Rattle.fallowtime_front.specs.Ending.{ended_by}
 use Rattle.fallowtime_front.specs.declared.ending.Ended.{Ended}
 use Rattle.fallowtime_front.specs.declared.ending.Ended.TheVariants as ended
-use Rattle.fallowtime_lists.specs.declared.error.ListError.{ListError}
-use Rattle.fallowtime_lists.specs.declared.error.Reason.{Reason}
-use Rattle.fallowtime_lists.specs.declared.error.Reason.TheVariants as reason
+use Rattle.fallowtime_commands.specs.declared.session.error.ListError.{ListError}
+use Rattle.fallowtime_commands.specs.declared.session.error.Reason.{Reason}
+use Rattle.fallowtime_commands.specs.declared.session.error.Reason.TheVariants as reason
 use Rattle.fallowtime_requests.specs.declared.reading.Question.{Question}
 use Rattle.fallowtime_requests.specs.declared.unread.Unread.TheVariants as unread
-use Rattle.fallowtime_session.specs.Acts.{Acted, list}
-use Rattle.fallowtime_session.specs.ListLines.{SendsAll}
-use Rattle.fallowtime_session.specs.declared.places.Place.TheVariants as place
+use Rattle.fallowtime_commands.specs.Acts.{Acted, list}
+use Rattle.fallowtime_commands.specs.ListLines.{SendsAll}
+use Rattle.fallowtime_commands.specs.declared.session.places.Place.TheVariants as place
 use Rattle.store_model.specs.declared.error.ErrorKind.{ErrorKind}
 use Rattle.store_model.specs.declared.error.ErrorKind.TheVariants.{BadKey}
 use Rattle.store_model.specs.declared.error.StoreError.{StoreError}

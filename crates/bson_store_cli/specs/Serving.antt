@@ -10,8 +10,8 @@ use Rattle.bson_store.specs.Export.{SendsCollection}
 use Rattle.bson_store.specs.Opening.{RepresentsSome}
 use Rattle.cli_commands.specs.Execute.{Reports}
 use Rattle.cli_commands.specs.declared.stop.Failure.{Failure}
-use Rattle.cli_words.specs.Words.{IsLine}
-use Rattle.cli_words.specs.declared.call.Call.{Call}
+use Rattle.cli_commands.specs.Words.{IsLine}
+use Rattle.cli_commands.specs.declared.call.Call.{Call}
 use Rattle.fallowtime_front.specs.Words.{AsksForCopy, AsksToWait}
 use Rattle.fallowtime_front.specs.Asking.{refused}
 use Rattle.fallowtime_front.specs.Ending.{ended_by}
@@ -23,10 +23,10 @@ use Rattle.fallowtime_commands.specs.declared.printing.Form.{Form}
 use Rattle.fallowtime_commands.specs.declared.refusal.Refusal.{Refusal}
 use Rattle.fallowtime_requests.specs.declared.request.Request.{Request}
 use Rattle.fallowtime_messages.specs.Done.{DoesAll}
-use Rattle.fallowtime_session.specs.Leaving.{LeavesTurns}
-use Rattle.fallowtime_session.specs.Sessions.{Turn, Ends}
-use Rattle.fallowtime_texts.specs.declared.made.IdMaker.{IdMaker}
-use Rattle.fallowtime_wire.specs.Exchanges.{Ends as EndsMessages}
+use Rattle.fallowtime_commands.specs.Leaving.{LeavesTurns}
+use Rattle.fallowtime_commands.specs.Sessions.{Turn, Ends}
+use Rattle.cli_convert.specs.declared.made.IdMaker.{IdMaker}
+use Rattle.fallowtime_messages.specs.Exchanges.{Ends as EndsMessages}
 use Rattle.store_model.specs.declared.error.ErrorKind.{ErrorKind}
 use Rattle.store_model.specs.declared.error.StoreError.{StoreError}
 

@@ -16,13 +16,13 @@ use crate::fallowtime::PATIENCE;
 use bson_base::{ReadAllError, read_all};
 use bson_store::{ErrorKind, Sink, Source, Store, StoreError};
 use cli_files::{close, open_within};
+use fallowtime_commands::session::{
+    JoinStop, Joined, ListError, ListStop, Place, Reason, join_lines, perform_all, questions_in,
+    send_answers,
+};
 use fallowtime_commands::{Answer, Refusal};
 use fallowtime_front::{Ended, ended_of};
-use fallowtime_lists::{ListError, Reason, perform_all};
 use fallowtime_requests::{Question, Unread, items_of};
-use fallowtime_session::{
-    JoinStop, Joined, ListStop, Place, join_lines, questions_in, send_answers,
-};
 use fallowtime_words::Words;
 use json::{Scratch, Value};
 use sqlite::{Alter, Connection};

@@ -1,6 +1,6 @@
 //! The clock of the system, and what makes ids by it.
 
-use fallowtime_texts::{Clock, IdMaker};
+use cli_convert::{Clock, IdMaker};
 use std::hash::{BuildHasher, RandomState};
 use std::io;
 use std::time::SystemTime;

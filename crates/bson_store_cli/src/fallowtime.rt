@@ -16,8 +16,8 @@ ghost use Rattle.fallowtime_front.specs.declared.ending.Ended.{Ended as WhyEnded
 ghost use Rattle.fallowtime_front.specs.declared.ending.Ended.TheVariants.{Refused, Words as BadWords};
 ghost use Rattle.fallowtime_requests.specs.declared.unread.Unread.TheVariants.{Command as Usage};
 ghost use Rattle.fallowtime_words.specs.Words.{Asked as Asking, IsTask};
-ghost use Rattle.fallowtime_help.specs.Topics.{IsTopic};
-ghost use Rattle.fallowtime_help.specs.declared.topic.Topic.{Topic as About};
+ghost use Rattle.fallowtime_words.specs.Topics.{IsTopic};
+ghost use Rattle.fallowtime_words.specs.declared.topic.Topic.{Topic as About};
 ghost use Rattle.bson_store_cli.specs.Over.{OpensFor};
 ghost use Rattle.bson_store_cli.specs.Serving.{AnswersLines, AnswersMessages, AnswersRequests, ServesExport, ServesRequest, plainly};
 
@@ -27,25 +27,26 @@ use crate::commands::judged;
 use crate::help;
 use bson_base::write_all;
 use bson_store::{ErrorKind, Sink, Source, Store};
+use cli_convert::{Clock, IdMaker};
 use cli_files::{
     FileError, close, copy, lock_within, open_parts, open_within, options_of_few, read,
 };
-use fallowtime_changes::{execute_in_pages, is_of_one};
 use fallowtime_commands::{Answer, Refusal, execute, export_all, look_up, print_found};
-use fallowtime_front::{Asked, Ended, asked_of, count_of, ended_of, form_of, tell};
-use fallowtime_help::{
-    Packing, advice_on_document, advice_on_query, field_of, packing_of, topic_of,
+use fallowtime_front::{
+    Asked, Ended, asked_of, count_of, ended_of, execute_in_pages, form_of, is_of_one, tell,
 };
+use fallowtime_messages::database_of;
 use fallowtime_requests::{Request, Unread, question_of_words};
-use fallowtime_texts::{Clock, IdMaker};
-use fallowtime_wire::database_of;
-use fallowtime_words::{Argument, Command, Task, Words, read_words};
+use fallowtime_words::{
+    Argument, Command, Packing, Task, Words, advice_on_document, advice_on_query, field_of,
+    packing_of, read_words, topic_of,
+};
 use json::Scratch;
 use sqlite::{Alter, Connection, FileFrom, Files, Start, Unknown};
 use std::alloc::{AllocError, Global};
 use std::io::IsTerminal;
 use std::{fs, io};
-use store_writer::Writer;
+use store_table::pages::Writer;
 
 /// How many seconds to wait for a file that another process has, if the words don't say.
 pub(crate) const PATIENCE: u64 = 5;
@@ -380,7 +381,7 @@ fn answer_lines<S: Alter + Drop, C: Clock, I: Source, O: Sink>(
         (O.tally output.old) (O.tally output.new) result (store_state S.Store store.old)
         (store_state S.Store store.new) }
 {
-    match fallowtime_session::serve(alloc, store, clock, maker, input, output) {
+    match fallowtime_commands::session::serve(alloc, store, clock, maker, input, output) {
         Ok(()) => Ok(()),
         Err(kind) => Err(Ended::Refused(Refusal::from(kind))),
     }
@@ -402,7 +403,7 @@ fn answer_messages<S: Alter + Drop, C: Clock, I: Source, O: Sink>(
         (O.tally output.new) result (store_state S.Store store.old) (store_state S.Store store.new) }
 {
     let mut own = maker.copy();
-    match fallowtime_wire::serve(alloc, store, clock, &mut own, database, input, output) {
+    match fallowtime_messages::wire::serve(alloc, store, clock, &mut own, database, input, output) {
         Ok(()) => Ok(()),
         Err(kind) => Err(Ended::Refused(Refusal::from(kind))),
     }

@@ -5,19 +5,18 @@ ghost use Rattle.std.specs.Io.KnownBytes.{Appends};
 ghost use Rattle.bson_base.specs.Device.{CanRefuse};
 ghost use Rattle.fallowtime_front.specs.Ending.{TellsEnd};
 ghost use Rattle.fallowtime_front.specs.declared.ending.Ended.{Ended as Ending};
-ghost use Rattle.fallowtime_help.specs.Overview.{Tells};
+ghost use Rattle.fallowtime_words.specs.Overview.{Tells};
 
 use crate::fallowtime::is_bare;
 use bson_base::write_all;
 use bson_store::{ErrorKind, Sink};
 use fallowtime_commands::Refusal;
 use fallowtime_front::{Ended, tell};
-use fallowtime_help::{
-    Packing, Topic, about, advice_for, advice_on_packed, hint_at_name, hint_of, kind_names,
-    topic_of,
-};
 use fallowtime_requests::Unread;
-use fallowtime_words::read_words;
+use fallowtime_words::{
+    Packing, Topic, about, advice_for, advice_on_packed, hint_at_name, hint_of, kind_names,
+    read_words, topic_of,
+};
 use std::alloc::AllocError;
 use std::io::{IsTerminal, Write};
 
@@ -96,7 +95,7 @@ pub fn hint_at_collection(rt: &HostRuntime, names: &[String], name: &str) -> boo
 
 /// Says that nothing answers a query, as no document has a field.
 pub fn hint_at_field(rt: &HostRuntime, field: &str) {
-    note(rt, "", fallowtime_help::hint_at_field(rt.alloc(), field));
+    note(rt, "", fallowtime_words::hint_at_field(rt.alloc(), field));
 }
 
 /// Says what helps if nothing answers a query, or what is said of a document that was put in.

@@ -6,7 +6,7 @@
 #![tactic(auto)]
 
 ghost use Rattle.std.specs.Prelude.{◌≡◌, ◌⊎◌, Bool};
-ghost use Rattle.terminal_text.specs.Writing.{Begins};
+ghost use Rattle.cli_convert.specs.Writing.{Begins};
 
 mod applying;
 mod clock;
@@ -18,14 +18,13 @@ mod stack;
 
 use crate::closed::{Hushed, Reader, Watched};
 use bson_store::{Counted, ErrorKind};
-use cli_convert::convert;
+use cli_commands::pipe;
+use cli_convert::{Output, convert};
 use cli_files::{misuse, refuse, unread};
-use cli_pipe::pipe;
 use fallowtime_front::{Program, program_of, words_of};
 use fallowtime_words::is_session;
 use std::io::{BufWriter, IsTerminal, Write};
 use std::process::ExitCode;
-use terminal_text::Output;
 
 /// How many bytes of output are gathered before they are written.
 const OUTPUT_ROOM: usize = 65536;

@@ -27,7 +27,7 @@ use Rattle.cli_commands.specs.Printing.{reply_of}
 use Rattle.cli_commands.specs.declared.answer.Answer.{Answer}
 use Rattle.cli_commands.specs.declared.stop.Failure.{Failure}
 use Rattle.cli_commands.specs.declared.stop.Failure.TheVariants.{Refused}
-use Rattle.cli_words.specs.declared.lines.UsageError.{UsageError}
+use Rattle.cli_commands.specs.declared.lines.UsageError.{UsageError}
 
 -- ---- a refused call leaves the list
 

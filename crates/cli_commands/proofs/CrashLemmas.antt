@@ -22,7 +22,7 @@ use Rattle.bson_store.specs.Refusals.{as_number, reply_by}
 use Rattle.bson_store.specs.Shown.{Represents}
 use Rattle.bson_store.proofs.CrashLemmas.{step_of, survives_itself}
 use Rattle.bson_store.proofs.MoveLemmas.{Relation, moved}
-use Rattle.cli_words.specs.declared.call.Call.{Call as Asked}
+use Rattle.cli_commands.specs.declared.call.Call.{Call as Asked}
 use Rattle.cli_commands.specs.Answers.{answer_by}
 use Rattle.cli_commands.specs.Commands.{AsksFor, IsOfStream}
 use Rattle.cli_commands.specs.Execute.{IsFailure, IsUnprinted, Tells}

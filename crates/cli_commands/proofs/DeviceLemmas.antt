@@ -8,10 +8,10 @@ use Rattle.store_model.specs.declared.error.ErrorKind.TheVariants.{Memory, Reade
 use Rattle.store_model.specs.Refusal.{refusal}
 use Rattle.store_model.specs.declared.error.StoreError.{StoreError}
 use Rattle.bson_store.specs.Refusals.{ReportsFailure}
-use Rattle.cli_words.specs.declared.call.Call.{Call}
-use Rattle.cli_words.specs.declared.call.Call.TheVariants as words
-use Rattle.cli_words.specs.declared.lines.UsageError.{UsageError}
-use Rattle.cli_words.specs.declared.lines.UsageError.TheVariants.{Line}
+use Rattle.cli_commands.specs.declared.call.Call.{Call}
+use Rattle.cli_commands.specs.declared.call.Call.TheVariants as words
+use Rattle.cli_commands.specs.declared.lines.UsageError.{UsageError}
+use Rattle.cli_commands.specs.declared.lines.UsageError.TheVariants.{Line}
 use Rattle.cli_commands.specs.Answers.{answer_by, number_answer}
 use Rattle.cli_commands.specs.Execute.{Fails, IsFailure, IsFault, IsReported, IsUnprinted, ReportsFailures, Tells}
 use Rattle.cli_commands.specs.Loading.{StopsLines, TakesLines}

@@ -14,11 +14,11 @@ use Rattle.store_model.specs.declared.error.StoreError.{StoreError}
 use Rattle.bson_store.specs.Calls.{Does, DoesTree}
 use Rattle.bson_store.specs.Refusals.{reply_by}
 use Rattle.bson_store.proofs.MoveLemmas.{moved, rests}
-use Rattle.cli_words.specs.Words.{Takes}
-use Rattle.cli_words.specs.declared.call.Call.{Call}
-use Rattle.cli_words.specs.declared.call.Call.TheVariants.{Get, Import, Load, Export}
-use Rattle.cli_words.specs.declared.lines.UsageError.{UsageError}
-use Rattle.cli_words.specs.declared.lines.UsageError.TheVariants.{Line}
+use Rattle.cli_commands.specs.Words.{Takes}
+use Rattle.cli_commands.specs.declared.call.Call.{Call}
+use Rattle.cli_commands.specs.declared.call.Call.TheVariants.{Get, Import, Load, Export}
+use Rattle.cli_commands.specs.declared.lines.UsageError.{UsageError}
+use Rattle.cli_commands.specs.declared.lines.UsageError.TheVariants.{Line}
 use Rattle.cli_commands.specs.Answers.{answer_by, number_answer}
 use Rattle.cli_commands.specs.Commands.{AsksFor, Complains, IsCommandOf, IsOfCall, IsOfStream, IsUnread, mode_of}
 use Rattle.cli_commands.specs.Execute.{Accepts, Any, Comes, Executed, IsFailure, IsFault, IsUnasked, IsUnprinted, Misprints, Performed, Performs, Sends, ShowsAnswer, Starves, Tells}

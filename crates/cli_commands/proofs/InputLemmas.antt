@@ -1,7 +1,7 @@
 -- Which calls leave the input.
 use Rattle.std.proofs.Common.{◌≡◌, refl, sym, subst}
-use Rattle.cli_words.specs.declared.call.Call.{Call}
-use Rattle.cli_words.specs.declared.call.Call.TheVariants.{Import, Load}
+use Rattle.cli_commands.specs.declared.call.Call.{Call}
+use Rattle.cli_commands.specs.declared.call.Call.TheVariants.{Import, Load}
 use Rattle.cli_commands.specs.Commands.{Spares}
 
 pub spares_same : {A : Type 0} (call : Call) (x : A) → Spares call x x

@@ -12,3 +12,10 @@ pub mod WordLemmas
 pub mod CrashLemmas
 pub mod LineLemmas
 pub mod PrintLemmas
+mod OpenLemmas
+mod RefusalLemmas
+mod KeepLemmas
+mod PipeSendLemmas
+pub mod PartLemmas
+pub mod FilterLemmas
+pub mod ReadLemmas

@@ -3,9 +3,9 @@ use Rattle.std.proofs.Common.{◌≡◌, ◌≢◌, ℕ, suc, ◌+◌, ◌<◌, 
 use Rattle.std.proofs.Math.Seq.{take-suc, drop-cons}
 use Rattle.std.proofs.lemmas.Grind.{common_steps}
 use Rattle.serde_json.specs.Data.{Data}
-use Rattle.cli_words.specs.Inputs.{HaveTrees, IsBadLine, IsTreeLine}
-use Rattle.cli_words.specs.declared.lines.UsageError.TheVariants.{Line}
-use Rattle.cli_words.proofs.ReadLemmas.{no_tree_more, tree_more}
+use Rattle.cli_commands.specs.Inputs.{HaveTrees, IsBadLine, IsTreeLine}
+use Rattle.cli_commands.specs.declared.lines.UsageError.TheVariants.{Line}
+use Rattle.cli_commands.proofs.ReadLemmas.{no_tree_more, tree_more}
 use Rattle.cli_commands.specs.Execute.{StopsFor}
 use Rattle.cli_commands.specs.Loading.{StopsAtLine, TakesLine}
 use Rattle.cli_commands.specs.declared.stop.Failure.{Failure}

@@ -9,7 +9,7 @@ use Rattle.serde_json.specs.Data.{Data}
 use Rattle.serde_json.specs.Written.{compact_text}
 use Rattle.bson_base.specs.Device.{Tally}
 use Rattle.store_model.specs.State.{json_list}
-use Rattle.cli_words.specs.Lines.{line}
+use Rattle.cli_commands.specs.Lines.{line}
 use Rattle.cli_commands.specs.Printing.{Prints}
 
 -- no part

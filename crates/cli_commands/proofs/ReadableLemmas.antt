@@ -4,10 +4,10 @@ use Rattle.serde_json.specs.Data.{Data}
 use Rattle.bson_base.specs.Device.{Feed}
 use Rattle.store_model.specs.Reading.{Reading, readable, unreadable, ReadsTree}
 use Rattle.store_model.specs.State.{Command, insert, replace, in_json, on}
-use Rattle.cli_words.specs.declared.call.Call.{Call}
-use Rattle.cli_words.specs.declared.call.Call.TheVariants.{Insert, Replace, Get, Set, Unset, Remove, Find, Count, Import, Export, Dump, Load, Collections}
-use Rattle.cli_words.specs.declared.lines.UsageError.{UsageError}
-use Rattle.cli_words.specs.declared.lines.UsageError.TheVariants as words
+use Rattle.cli_commands.specs.declared.call.Call.{Call}
+use Rattle.cli_commands.specs.declared.call.Call.TheVariants.{Insert, Replace, Get, Set, Unset, Remove, Find, Count, Import, Export, Dump, Load, Collections}
+use Rattle.cli_commands.specs.declared.lines.UsageError.{UsageError}
+use Rattle.cli_commands.specs.declared.lines.UsageError.TheVariants as words
 use Rattle.cli_commands.specs.Commands.{Complains, IsCommandOf, IsOfLines, IsOfStream}
 use Rattle.cli_commands.proofs.KindLemmas.{IsReadCommand, stream_stop, tree_kind, trees_stop}
 

@@ -23,7 +23,7 @@ use Rattle.bson_store.specs.Shown.{Represents}
 use Rattle.store_model.specs.declared.error.StoreError.{StoreError}
 use Rattle.bson_store.proofs.MoveLemmas.{moved, moved_twice}
 use Rattle.bson_store.proofs.ServeLemmas.{bad_name, denied, memory_other, stay, undecided}
-use Rattle.cli_words.specs.declared.call.Call.TheVariants as words
+use Rattle.cli_commands.specs.declared.call.Call.TheVariants as words
 use Rattle.cli_commands.specs.Execute.{Comes, IsFault}
 use Rattle.cli_commands.specs.Printing.{Prints}
 use Rattle.cli_commands.specs.declared.stop.Failure.{Failure}

@@ -16,11 +16,11 @@ use Rattle.store_model.specs.Refusal.{refusal}
 use Rattle.store_model.specs.declared.error.StoreError.{StoreError}
 use Rattle.bson_store.proofs.MoveLemmas.{moved, rests}
 use Rattle.bson_store.proofs.ServeLemmas.{bad_name}
-use Rattle.cli_words.specs.declared.lines.UsageError.{UsageError}
-use Rattle.cli_words.specs.declared.lines.UsageError.TheVariants as complaints
+use Rattle.cli_commands.specs.declared.lines.UsageError.{UsageError}
+use Rattle.cli_commands.specs.declared.lines.UsageError.TheVariants as complaints
 use Rattle.cli_commands.specs.Answers.{answer_by}
 use Rattle.cli_commands.specs.Answers as answers
-use Rattle.cli_words.specs.declared.call.Call.TheVariants.{Load}
+use Rattle.cli_commands.specs.declared.call.Call.TheVariants.{Load}
 use Rattle.cli_commands.specs.Commands.{AsksFor, Complains, HasBadLine, IsOfStream}
 use Rattle.cli_commands.specs.Execute.{Accepts, Comes, IsFault, IsUnasked, Performs, IsRefusedBy}
 use Rattle.cli_commands.specs.Loading.{StopsLines}

@@ -8,13 +8,13 @@ use Rattle.bson_model.specs.declared.extjson.ser.Mode.TheVariants.{Canonical, Re
 use Rattle.store_model.specs.Filter.{Filter}
 use Rattle.store_model.specs.Reading.{Reading, ReadsTree, read_value}
 use Rattle.store_model.specs.State.{Call, on, set, unset, get_json}
-use Rattle.cli_words.specs.declared.call.Call.{Call as Asked}
-use Rattle.cli_words.specs.declared.call.Call.TheVariants as words
-use Rattle.cli_words.specs.Filters.{AnswersFilter, IsFilterText}
-use Rattle.cli_words.specs.Texts.{AnswersId, AnswersText}
-use Rattle.cli_words.specs.Words.{Takes, relaxed_word}
-use Rattle.cli_words.specs.declared.lines.UsageError.{UsageError}
-use Rattle.cli_words.specs.declared.texts.TextError.TheVariants.{Unreadable}
+use Rattle.cli_commands.specs.declared.call.Call.{Call as Asked}
+use Rattle.cli_commands.specs.declared.call.Call.TheVariants as words
+use Rattle.cli_commands.specs.Filters.{AnswersFilter, IsFilterText}
+use Rattle.cli_commands.specs.Texts.{AnswersId, AnswersText}
+use Rattle.cli_commands.specs.Words.{Takes, relaxed_word}
+use Rattle.cli_commands.specs.declared.lines.UsageError.{UsageError}
+use Rattle.cli_commands.specs.declared.word_texts.TextError.TheVariants.{Unreadable}
 use Rattle.cli_commands.specs.Commands.{HasId, IsIdText, IsNoFilter, IsNoId, IsNoJson, IsOfFilter, IsOfTree, IsOfId, IsCommandOf, IsUnread, first_key, mode_of}
 use Rattle.cli_commands.specs.Execute.{StopsFor}
 use Rattle.cli_commands.specs.Requests.{IsTreeText, Stops, text_at}

@@ -11,16 +11,16 @@ use Rattle.store_model.specs.Filter.{Filter}
 use Rattle.store_model.specs.Reading.{Documents, Reading, ReadsStream, ReadsTree, ReadsTrees, read_value}
 use Rattle.store_model.specs.State as model
 use Rattle.store_model.specs.declared.error.ErrorKind.{ErrorKind}
-use Rattle.cli_words.specs.declared.call.Call.{Call}
-use Rattle.cli_words.specs.declared.call.Call.TheVariants.{Insert, Replace, Get, Set, Unset, Remove, Find, Count, Import, Export, Dump, Load, Collections}
-use Rattle.cli_words.specs.Filters.{AnswersFilter, IsFilterText}
-use Rattle.cli_words.specs.Inputs.{HaveTrees, IsFirstBadLine, lines_in}
-use Rattle.cli_words.specs.Texts.{AnswersId, AnswersText}
-use Rattle.cli_words.specs.Words.{Takes}
-use Rattle.cli_words.specs.declared.lines.UsageError.{UsageError}
-use Rattle.cli_words.specs.declared.lines.UsageError.TheVariants.{Usage, Json, Id, Line}
-use Rattle.cli_words.specs.declared.lines.UsageError.TheVariants as words
-use Rattle.cli_words.specs.declared.texts.TextError.TheVariants.{Unreadable}
+use Rattle.cli_commands.specs.declared.call.Call.{Call}
+use Rattle.cli_commands.specs.declared.call.Call.TheVariants.{Insert, Replace, Get, Set, Unset, Remove, Find, Count, Import, Export, Dump, Load, Collections}
+use Rattle.cli_commands.specs.Filters.{AnswersFilter, IsFilterText}
+use Rattle.cli_commands.specs.Inputs.{HaveTrees, IsFirstBadLine, lines_in}
+use Rattle.cli_commands.specs.Texts.{AnswersId, AnswersText}
+use Rattle.cli_commands.specs.Words.{Takes}
+use Rattle.cli_commands.specs.declared.lines.UsageError.{UsageError}
+use Rattle.cli_commands.specs.declared.lines.UsageError.TheVariants.{Usage, Json, Id, Line}
+use Rattle.cli_commands.specs.declared.lines.UsageError.TheVariants as words
+use Rattle.cli_commands.specs.declared.word_texts.TextError.TheVariants.{Unreadable}
 
 -- the value of an Extended JSON text
 abbrev pub IsIdText : List ℕ → Value → Type 0

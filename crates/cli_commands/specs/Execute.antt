@@ -6,12 +6,12 @@ use Rattle.store_model.specs.State.{Command, Reply, refused, When, IsName}
 use Rattle.store_model.specs.Table.{DocumentTable, Serves, IsRefusal, state_of}
 use Rattle.store_model.specs.declared.error.ErrorKind.{ErrorKind}
 use Rattle.store_model.specs.declared.error.ErrorKind.TheVariants.{Memory, Reader, Writer}
-use Rattle.cli_words.specs.Lines.{complaint_line, refusal_line}
-use Rattle.cli_words.specs.Words.{Takes}
-use Rattle.cli_words.specs.declared.call.Call.{Call}
-use Rattle.cli_words.specs.declared.call.Call.TheVariants.{Import, Load, Export, Dump}
-use Rattle.cli_words.specs.declared.lines.UsageError.{UsageError}
-use Rattle.cli_words.specs.declared.words.Words.{Words as Wording}
+use Rattle.cli_commands.specs.Lines.{complaint_line, refusal_line}
+use Rattle.cli_commands.specs.Words.{Takes}
+use Rattle.cli_commands.specs.declared.call.Call.{Call}
+use Rattle.cli_commands.specs.declared.call.Call.TheVariants.{Import, Load, Export, Dump}
+use Rattle.cli_commands.specs.declared.lines.UsageError.{UsageError}
+use Rattle.cli_commands.specs.declared.words.Words.{Words as Wording}
 use Rattle.bson_store.specs.Export.{Exports}
 use Rattle.store_model.specs.Refusal.{refusal}
 use Rattle.bson_store.specs.Shown.{Represents}

@@ -9,8 +9,8 @@ use Rattle.store_model.specs.declared.error.ErrorKind.TheVariants.{Writer}
 use Rattle.store_model.specs.declared.error.StoreError.{StoreError}
 use Rattle.bson_store.specs.Calls.{Does}
 use Rattle.bson_store.specs.Left.{Leaves}
-use Rattle.cli_words.specs.declared.call.Call.{Call}
-use Rattle.cli_words.specs.declared.call.Call.TheVariants.{Insert, Replace, Set, Unset, Remove, Import, Load}
+use Rattle.cli_commands.specs.declared.call.Call.{Call}
+use Rattle.cli_commands.specs.declared.call.Call.TheVariants.{Insert, Replace, Set, Unset, Remove, Import, Load}
 use Rattle.cli_commands.specs.Execute.{Asked, CommandLine, IsFailure, Streams}
 use Rattle.cli_commands.specs.declared.stop.Failure.{Failure}
 use Rattle.cli_commands.specs.declared.stop.Failure.TheVariants.{Words, Refused}

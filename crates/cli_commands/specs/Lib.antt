@@ -6,3 +6,9 @@ pub mod Printing
 pub mod Requests
 pub mod Leaving
 pub mod Outcome
+pub mod Pipe
+pub mod Words
+pub mod Texts
+pub mod Filters
+pub mod Inputs
+pub mod Lines

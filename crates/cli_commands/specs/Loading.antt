@@ -6,8 +6,8 @@ use Rattle.store_documents.specs.Loading.{HasTaken}
 use Rattle.store_documents.specs.declared.loading.Loader.{Loader}
 use Rattle.store_model.specs.Refusal.{refusal}
 use Rattle.store_model.specs.declared.error.ErrorKind.TheVariants.{Memory, Reader}
-use Rattle.cli_words.specs.Inputs.{HaveTrees, IsFirstBadLine, IsTreeLine, lines_in}
-use Rattle.cli_words.specs.declared.lines.UsageError.TheVariants.{Line}
+use Rattle.cli_commands.specs.Inputs.{HaveTrees, IsFirstBadLine, IsTreeLine, lines_in}
+use Rattle.cli_commands.specs.declared.lines.UsageError.TheVariants.{Line}
 use Rattle.cli_commands.specs.Commands.{HasBadLine}
 use Rattle.cli_commands.specs.Execute.{IsFault}
 use Rattle.cli_commands.specs.declared.stop.Failure.{Failure}

@@ -2,7 +2,7 @@
 use Rattle.std.specs.Prelude.{Result}
 use Rattle.sqlite.specs.State.{State}
 use Rattle.store_table.specs.Moves.{Moves, WasOpen}
-use Rattle.cli_words.specs.declared.words.Words.{Words as Wording}
+use Rattle.cli_commands.specs.declared.words.Words.{Words as Wording}
 use Rattle.cli_commands.specs.Execute.{Executes, ReportsFailures, Streams, line_of}
 use Rattle.cli_commands.specs.Leaving.{LeavesCall}
 use Rattle.cli_commands.specs.declared.stop.Failure.{Failure}

@@ -9,7 +9,7 @@ use Rattle.serde_json.specs.Written.{compact_text, has_float}
 use Rattle.bson_base.specs.Device.{Tally}
 use Rattle.store_model.specs.State as model
 use Rattle.bson_store.specs.Export.{bytes_of_each}
-use Rattle.cli_words.specs.Lines.{flag_text, line}
+use Rattle.cli_commands.specs.Lines.{flag_text, line}
 use Rattle.cli_commands.specs.declared.answer.Answer.{Answer}
 use Rattle.cli_commands.specs.declared.answer.Answer.TheVariants.{Nothing, Flag, Number, Tree, Documents, Names}
 

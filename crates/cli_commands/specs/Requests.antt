@@ -6,12 +6,12 @@ use Rattle.serde_json.specs.declared.value.Value.{Value as Json}
 use Rattle.bson_model.specs.View.{view}
 use Rattle.store_model.specs.declared.error.ErrorKind.TheVariants.{Memory}
 use Rattle.store_model.specs.Refusal.{refusal}
-use Rattle.store_filter.specs.Filters.{filter_of}
-use Rattle.cli_words.specs.Filters.{IsFilterText}
-use Rattle.cli_words.specs.Words.{Takes}
-use Rattle.cli_words.specs.declared.call.Call.{Call}
-use Rattle.cli_words.specs.declared.call.Call.TheVariants.{Insert, Replace, Get, Set, Unset, Remove, Find, Count, Import, Export, Dump, Load, Collections}
-use Rattle.cli_words.specs.declared.words.Words.{Words as Wording}
+use Rattle.store_question.specs.Filters.{filter_of}
+use Rattle.cli_commands.specs.Filters.{IsFilterText}
+use Rattle.cli_commands.specs.Words.{Takes}
+use Rattle.cli_commands.specs.declared.call.Call.{Call}
+use Rattle.cli_commands.specs.declared.call.Call.TheVariants.{Insert, Replace, Get, Set, Unset, Remove, Find, Count, Import, Export, Dump, Load, Collections}
+use Rattle.cli_commands.specs.declared.words.Words.{Words as Wording}
 use Rattle.cli_commands.specs.Commands.{IsIdText, IsUnread, mode_of}
 use Rattle.cli_commands.specs.declared.request.Request.{Request}
 use Rattle.cli_commands.specs.declared.request.Request.TheVariants as requests

@@ -3,8 +3,8 @@
 ghost use Rattle.std.specs.Prelude.{◌≡◌, false};
 ghost use Rattle.bson_base.specs.Device.{CanRefuse};
 
+use crate::write_line;
 use bson_store::{ErrorKind, Sink, StoreError, TakeText};
-use cli_words::write_line;
 
 /// Prints the texts, one a line, until that fails.
 #[derive(Drop)]

@@ -3,7 +3,7 @@
 ghost use Rattle.std.specs.Prelude.{◌≡◌, ℕ, [], IfOk};
 ghost use Rattle.bson_base.specs.Device.{CanFail};
 ghost use Rattle.bson_store.specs.Calls.{Relates, store_state};
-ghost use Rattle.cli_words.specs.declared.call.Call.TheVariants.{Load};
+ghost use Rattle.cli_commands.specs.declared.call.Call.TheVariants.{Load};
 ghost use Rattle.cli_commands.specs.Commands.{AsksFor, Complains};
 ghost use Rattle.store_table.specs.Moves.{WasOpen};
 ghost use Rattle.store_model.specs.declared.error.ErrorKind.TheVariants.{Reader};

@@ -10,9 +10,9 @@ ghost use Rattle.cli_commands.specs.Execute.{IsFailure, IsFault, IsUnprinted};
 ghost use Rattle.cli_commands.specs.Printing.{Prints, reply_of};
 
 use crate::answer::Answer;
+use crate::{write_flag, write_line, write_number};
 use bson_base::write_all;
 use bson_store::{Sink, StoreError};
-use cli_words::{write_flag, write_line, write_number};
 use serde_json::Value;
 use std::alloc::Global;
 

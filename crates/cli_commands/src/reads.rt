@@ -2,7 +2,7 @@
 
 ghost use Rattle.store_table.specs.Crash.{AddsNothing};
 ghost use Rattle.bson_store.specs.Calls.{Relates, store_state};
-ghost use Rattle.cli_words.specs.declared.call.Call.TheVariants.{Export, Dump};
+ghost use Rattle.cli_commands.specs.declared.call.Call.TheVariants.{Export, Dump};
 ghost use Rattle.store_table.specs.Moves.{WasOpen};
 ghost use Rattle.store_model.specs.declared.error.ErrorKind.TheVariants.{Writer};
 ghost use Rattle.cli_commands.specs.Execute.{Comes, Executed, Fails, SilentUnread, line_on, streams};

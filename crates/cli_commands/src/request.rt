@@ -5,12 +5,12 @@ ghost use Rattle.cli_commands.specs.Requests.{IsRequestOf, StopsRequest};
 
 use crate::stop::Failure;
 use crate::texts::{filter_of_text, id_of, json_of_text, mode_of, text_at};
+use crate::{Call, UsageError, Words};
 use bson_store::Bson;
 use bson_store::extjson::Mode;
-use cli_words::{Call, UsageError, Words};
 use serde_json::Value;
 use std::alloc::Global;
-use store_filter::Filter;
+use store_question::Filter;
 
 /// What the words ask for, with every text among them read.
 #[derive(Drop)]

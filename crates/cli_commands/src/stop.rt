@@ -5,8 +5,8 @@ ghost use Rattle.store_model.specs.Refusal.{refusal};
 ghost use Rattle.store_model.specs.declared.error.ErrorKind.TheVariants.{Memory};
 ghost use Rattle.cli_commands.specs.declared.stop.Failure.TheVariants.{Refused};
 
+use crate::UsageError;
 use bson_store::{ErrorKind, StoreError};
-use cli_words::UsageError;
 use std::alloc::AllocError;
 
 /// Why a command isn't done, or its answer not printed.

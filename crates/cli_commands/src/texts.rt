@@ -7,24 +7,24 @@ ghost use Rattle.serde_json.specs.Read.{read as data_of_text};
 ghost use Rattle.serde_json.specs.View.{view as data_of};
 ghost use Rattle.bson_model.specs.View.{view};
 ghost use Rattle.store_documents.specs.Loading.{HasTaken};
-ghost use Rattle.cli_words.specs.Filters.{AnswersFilter, IsFilterText};
-ghost use Rattle.cli_words.specs.Inputs.{HaveTrees, IsBadLine, lines_in};
-ghost use Rattle.cli_words.specs.Texts.{AnswersId, AnswersText};
-ghost use Rattle.store_filter.specs.Filters.{filter_of};
-ghost use Rattle.cli_words.specs.declared.texts.TextError.TheVariants.{Unreadable};
+ghost use Rattle.cli_commands.specs.Filters.{AnswersFilter, IsFilterText};
+ghost use Rattle.cli_commands.specs.Inputs.{HaveTrees, IsBadLine, lines_in};
+ghost use Rattle.cli_commands.specs.Texts.{AnswersId, AnswersText};
+ghost use Rattle.store_question.specs.Filters.{filter_of};
+ghost use Rattle.cli_commands.specs.declared.word_texts.TextError.TheVariants.{Unreadable};
 ghost use Rattle.cli_commands.specs.Commands.{IsIdText, mode_of};
 ghost use Rattle.cli_commands.specs.Execute.{StopsFor};
 ghost use Rattle.cli_commands.specs.Loading.{StopsAtLine, StopsLines, TakesLine, TakesLines};
 ghost use Rattle.cli_commands.specs.Requests.{text_at};
 
 use crate::stop::{Failure, refuse};
+use crate::{TextError, UsageError, parse_json, read_filter, read_id, read_line};
 use bson_base::{ReadAllError, read_all};
 use bson_store::extjson::Mode;
 use bson_store::{Bson, ErrorKind, Loader, Source};
-use cli_words::{TextError, UsageError, parse_json, read_filter, read_id, read_line};
 use serde_json::Value;
 use std::alloc::Global;
-use store_filter::Filter;
+use store_question::Filter;
 
 /// The text at a place among the words; empty if there is none.
 pub fn text_at(words: &[String], place: usize) -> &str

@@ -5,3 +5,11 @@ mod ToBsonLemmas
 mod SpoiledLemmas
 mod PipedLemmas
 mod ShownLemmas
+mod CutLemmas
+mod CollectLemmas
+mod HarmlessLemmas
+mod WritingLemmas
+pub mod IdLemmas
+mod ReadLemmas
+mod StraightLemmas
+mod AddLemmas

@@ -11,14 +11,14 @@ use Rattle.bson_base.specs.Value.{Members, Value, document}
 use Rattle.bson_bytes.specs.Encode.{encode}
 use Rattle.bson_bytes.proofs.MeaningLemmas.{meaning_is_sound}
 use Rattle.bson_json.specs.Prints.{IsTextOf}
-use Rattle.bson_json_laws.specs.Settled.{ComesBack, json_levels, settle_members}
+use Rattle.bson_json.specs.Settled.{ComesBack, json_levels, settle_members}
 use Rattle.bson_json_read.specs.Reading.{ReadsText}
 use Rattle.bson_json_read.specs.declared.error.Error.{Error}
 use Rattle.bson_meaning.specs.JsonReserved.{has_reserved}
 use Rattle.bson_model.specs.declared.document.Document.{Document}
 use Rattle.bson_model.specs.declared.extjson.ser.Mode.{Mode}
 use Rattle.bson_model.specs.declared.extjson.ser.Mode.TheVariants.{Canonical}
-use Rattle.cli_lines.specs.Line.{IsUnbroken}
+use Rattle.cli_convert.specs.Line.{IsUnbroken}
 use Rattle.cli_convert.specs.Lines.{Reads, IsReadAs, IsLine}
 use Rattle.cli_convert.specs.Parts.{InParts}
 use Rattle.cli_convert.specs.Piped.{AreShallow, settled_bytes}

@@ -7,11 +7,11 @@ use Rattle.bson_base.specs.Value.{Members}
 use Rattle.bson_json_read.specs.Reading.{ReadsText}
 use Rattle.bson_model.specs.View.{content}
 use Rattle.bson_model.specs.declared.document.Document.{Document}
-use Rattle.cli_lines.specs.Line.{Keeps}
-use Rattle.cli_lines.specs.Lines.{waiting, ReadsNext}
-use Rattle.cli_lines.specs.declared.line.Line.{Line}
-use Rattle.cli_lines.specs.declared.lines.Lines.{Lines}
-use Rattle.cli_lines.specs.declared.lines.Next.TheVariants.{Whole}
+use Rattle.cli_convert.specs.Line.{Keeps}
+use Rattle.cli_convert.specs.LineReader.{waiting, ReadsNext}
+use Rattle.cli_convert.specs.declared.line.Line.{Line}
+use Rattle.cli_convert.specs.declared.line_reader.Lines.{Lines}
+use Rattle.cli_convert.specs.declared.line_reader.Next.TheVariants.{Whole}
 use Rattle.cli_convert.specs.Lines.{Reads, IsLine, GivesLines, TakesLine, TakesLines, EndsLines, TakesAll, TakesText, TakesNext}
 use Rattle.cli_convert.specs.declared.stop.Stop.{Stop}
 use Rattle.cli_convert.specs.declared.stop.Stop.TheVariants as stop

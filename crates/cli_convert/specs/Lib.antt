@@ -6,3 +6,11 @@ pub mod Reports
 pub mod Program
 pub mod Piped
 pub mod Shown
+pub mod Line
+pub mod LineReader
+pub mod Terminal
+pub mod Writing
+pub mod Ids
+pub mod Made
+pub mod Printed
+pub mod IdLines

@@ -7,8 +7,8 @@ use Rattle.bson_json_read.specs.Reading.{ReadsText}
 use Rattle.bson_json_read.specs.declared.error.Error.TheVariants as reading
 use Rattle.bson_model.specs.View.{content}
 use Rattle.bson_model.specs.declared.document.Document.{Document}
-use Rattle.cli_lines.specs.Line.{IsUnbroken}
-use Rattle.cli_lines.specs.declared.line.TheConstants.{MOST}
+use Rattle.cli_convert.specs.Line.{IsUnbroken}
+use Rattle.cli_convert.specs.declared.line.TheConstants.{MOST}
 use Rattle.cli_convert.specs.Parts.{InParts}
 use Rattle.cli_convert.specs.declared.stop.LineFault.{LineFault}
 use Rattle.cli_convert.specs.declared.stop.LineFault.TheVariants.{TooLong, NotUtf8, Text, Raw}

@@ -2,7 +2,7 @@
 use Rattle.std.specs.Prelude.{◌≤◌, ℕ, List, [], ◌∷◌, ◌++◌}
 use Rattle.bson_base.specs.Value.{Members, document}
 use Rattle.bson_bytes.specs.Encode.{encode}
-use Rattle.bson_json_laws.specs.Settled.{json_levels, settle_members}
+use Rattle.bson_json.specs.Settled.{json_levels, settle_members}
 use Rattle.bson_model.specs.declared.extjson.ser.Mode.TheVariants.{Canonical}
 
 -- documents that have no more levels of JSON than the reader takes

@@ -6,7 +6,7 @@ use Rattle.bson_bytes.specs.Encode.{encode}
 use Rattle.bson_bytes.specs.Writing.{CanBeWritten}
 use Rattle.bson_frame.specs.declared.error.ErrorKind.TheVariants.{MalformedValue}
 use Rattle.bson_frame.specs.View.{IsBare}
-use Rattle.cli_lines.specs.Line.{IsUnbroken}
+use Rattle.cli_convert.specs.Line.{IsUnbroken}
 use Rattle.cli_convert.specs.Lines.{Reads, IsReadAs, GivesLines, RefusesText, HasNext, StopsAt}
 use Rattle.cli_convert.specs.Parts.{InParts, Passed}
 use Rattle.cli_convert.specs.declared.stop.LineFault.{LineFault}

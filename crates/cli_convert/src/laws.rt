@@ -10,7 +10,7 @@ ghost use Rattle.cli_convert.specs.Piped.{AreShallow, settled_bytes};
 ghost use Rattle.cli_convert.specs.ToBson.{IsWritten, WritesDocuments, spoil};
 ghost use Rattle.cli_convert.specs.ToLines.{IsDocument, IsFree, WritesLines};
 
-use bson_json_laws::{canonical_texts_read_back, texts_have_no_line_feed};
+use bson_json::laws::{canonical_texts_read_back, texts_have_no_line_feed};
 
 /// Documents, then the bytes that end a refused stream, and then anything else, are no stream of documents.
 pub fn spoiled_streams_are_none()

@@ -4,15 +4,15 @@ ghost use Rattle.std.specs.Prelude.{◌+◌, ◌<◌, ◌^◌, ℕ, List, Result
 ghost use Rattle.bson_base.specs.Device.{CanFail};
 ghost use Rattle.bson_base.specs.Value.{Members};
 ghost use Rattle.bson_model.specs.View.{content};
-ghost use Rattle.cli_lines.specs.Line.{Keeps};
-ghost use Rattle.cli_lines.specs.Lines.{waiting};
+ghost use Rattle.cli_convert.specs.Line.{Keeps};
+ghost use Rattle.cli_convert.specs.LineReader.{waiting};
 ghost use Rattle.cli_convert.specs.Lines.{ReadsLine, TakesAll, TakesNext, TakesText};
 
 use crate::stop::{LineFault, Stop};
+use crate::{Kept, Line, Lines, Next};
 use bson_base::Source;
 use bson_json_read::{Error, document_of_text};
 use bson_model::Document;
-use cli_lines::{Kept, Line, Lines, Next};
 use json::Scratch;
 use std::alloc::Global;
 use std::str;

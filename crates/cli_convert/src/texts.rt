@@ -8,7 +8,7 @@ ghost use Rattle.cli_convert.specs.ToLines.{HasNoLine, IsFreeLine, IsFreeText, I
 ghost use Rattle.cli_convert.specs.declared.stop.Stop.TheVariants.{Memory};
 
 use crate::stop::{Fault, Stop};
-use bson_canonical::is_written_form;
+use bson_bytes::is_written_form;
 use bson_frame::is_envelope;
 use bson_json::{Style, Unwritten, write_raw};
 use bson_meaning::reserved_path_below;

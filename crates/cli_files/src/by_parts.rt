@@ -10,7 +10,7 @@ use crate::parts::FileParts;
 use sqlite_disk::{Files, Start};
 use std::fs;
 use std::io::{self, Read};
-use store_pages::Snapshot;
+use store_table::pages::Snapshot;
 
 /// How many bytes of a log are read into memory.
 const MOST_LOG: u64 = 1 << 25;

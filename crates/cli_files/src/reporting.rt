@@ -5,13 +5,13 @@ ghost use Rattle.std.specs.IoError.{error_kind};
 ghost use Rattle.std.specs.declared.io.ErrorKind.TheVariants.{OutOfMemory};
 ghost use Rattle.bson_base.specs.Device.{CanRefuse, TakesText};
 ghost use Rattle.store_model.specs.declared.error.ErrorKind.TheVariants.{Memory};
-ghost use Rattle.cli_words.specs.Lines.{complaint_line, line, refusal_line};
-ghost use Rattle.cli_words.specs.declared.lines.UsageError.TheVariants.{Usage};
+ghost use Rattle.cli_commands.specs.Lines.{complaint_line, line, refusal_line};
+ghost use Rattle.cli_commands.specs.declared.lines.UsageError.TheVariants.{Usage};
 ghost use Rattle.cli_files.specs.Fault.{fault_line, kind_of};
 
 use crate::fault::FileError;
 use bson_base::Sink;
-use cli_words::{UsageError, write_complaint, write_line, write_refusal};
+use cli_commands::{UsageError, write_complaint, write_line, write_refusal};
 use std::io::{self, IsTerminal};
 use store_model::ErrorKind;
 

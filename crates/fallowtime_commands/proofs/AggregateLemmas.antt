@@ -6,10 +6,10 @@ use Rattle.store_asked.specs.Asking.{AskedFrom}
 use Rattle.store_model.specs.Reading.{Documents}
 use Rattle.store_model.specs.declared.error.StoreError.{StoreError}
 use Rattle.store_question.specs.Reads.{Form}
-use Rattle.store_sorted.proofs.SortLemmas.{as_they_came}
-use Rattle.store_sorted.specs.Bodies.{AreBodies, keys_of}
-use Rattle.store_sorted.specs.Order.{cut, Sorts}
-use Rattle.store_sorted.specs.declared.arrangement.Arrangement.{Arrangement}
+use Rattle.store_pipeline.proofs.SortLemmas.{as_they_came}
+use Rattle.store_pipeline.specs.Bodies.{AreBodies, keys_of}
+use Rattle.store_pipeline.specs.Order.{cut, Sorts}
+use Rattle.store_pipeline.specs.declared.sorted.arrangement.Arrangement.{Arrangement}
 use Rattle.store_table.specs.Rows.{TableRow}
 use Rattle.fallowtime_commands.specs.Aggregating.{AreAll, Bodies}
 

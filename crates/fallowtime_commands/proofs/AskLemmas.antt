@@ -2,8 +2,8 @@
 use Rattle.std.proofs.Common.{◌≡◌, ℕ, Bool, List, Result, Vec, String, refl, subst}
 use Rattle.std.specs.declared.alloc.Global.{Global}
 use Rattle.sqlite.specs.State.{State}
-use Rattle.store_distinct.specs.declared.counted.Counted.{Counted}
-use Rattle.store_filter.specs.Filters.{path_of}
+use Rattle.store_pipeline.specs.declared.sorted.counted.Counted.{Counted}
+use Rattle.store_question.specs.Filters.{path_of}
 use Rattle.store_table.specs.Moves.{Moves}
 use Rattle.store_table.specs.Rows.{TableRow}
 use Rattle.store_model.specs.declared.error.StoreError.{StoreError}

@@ -22,7 +22,7 @@ use Rattle.store_question.specs.Reads.{Form, Reads}
 use Rattle.store_update.specs.declared.error.UpdateError.{UpdateError}
 use Rattle.store_update.specs.declared.error.UpdateError.TheVariants as updates
 use Rattle.fallowtime_commands.specs.Storing.{IsFit, IsUnkept}
-use Rattle.store_update_read.specs.Outcome.{plans_of}
+use Rattle.store_question_read.specs.UpdateOutcome.{plans_of}
 use Rattle.fallowtime_requests.specs.declared.request.Work.{Work}
 use Rattle.fallowtime_requests.specs.declared.request.Work.TheVariants as work
 use Rattle.bson_store.specs.Export.{bytes_of_each}

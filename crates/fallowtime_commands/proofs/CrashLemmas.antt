@@ -14,7 +14,7 @@ use Rattle.store_model.specs.State as model
 use Rattle.store_model.specs.Table.{DocumentTable, state_of}
 use Rattle.store_question.specs.Reads.{Form, form_of}
 use Rattle.store_update.specs.Plan.{Plan}
-use Rattle.store_update_read.specs.Outcome.{plans_of}
+use Rattle.store_question_read.specs.UpdateOutcome.{plans_of}
 use Rattle.bson_store.specs.Left.{Holds}
 use Rattle.bson_store.specs.Whole.{HoldsDone}
 use Rattle.bson_store.specs.declared.edit.Edit.{Edit}

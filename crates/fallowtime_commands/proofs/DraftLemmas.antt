@@ -21,7 +21,7 @@ use Rattle.store_model.specs.State.{Answers, AreKept, done, HasId, HaveOwnIds, i
 use Rattle.store_model.specs.declared.error.ErrorKind.{ErrorKind}
 use Rattle.store_model.specs.declared.error.ErrorKind.TheVariants.{DuplicateId, Memory}
 use Rattle.store_model.specs.declared.error.StoreError.{StoreError}
-use Rattle.store_sorted.proofs.PlaceLemmas.{zip_more}
+use Rattle.store_pipeline.proofs.PlaceLemmas.{zip_more}
 use Rattle.store_model.specs.Refusal.{refusal}
 use Rattle.bson_store.proofs.WholeLemmas.{take_none}
 use Rattle.bson_store.specs.Export.{bytes_of_each}

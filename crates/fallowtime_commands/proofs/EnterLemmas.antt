@@ -18,7 +18,7 @@ use Rattle.store_model.specs.Table.{DocumentTable, IsRefusal, state_of}
 use Rattle.store_model.specs.declared.error.ErrorKind.{ErrorKind}
 use Rattle.store_model.specs.declared.error.ErrorKind.TheVariants.{DuplicateId, Memory, NotFound}
 use Rattle.store_model.specs.declared.error.StoreError.{StoreError}
-use Rattle.store_sorted.proofs.PlaceLemmas.{zip_more}
+use Rattle.store_pipeline.proofs.PlaceLemmas.{zip_more}
 use Rattle.store_table.specs.Moves.{Moves}
 use Rattle.bson_store.proofs.MoveLemmas.{moved, rests}
 use Rattle.bson_store.proofs.WholeLemmas.{take_none}

@@ -19,8 +19,8 @@ use Rattle.store_asked.proofs.AskLemmas.{answered_as, refused_as}
 use Rattle.store_asked.specs.Arranged.{AreArranged}
 use Rattle.store_asked.specs.Asking.{AnsweredFrom, AskedFrom}
 use Rattle.store_question.specs.Keeps.{Keeps}
-use Rattle.store_fields.specs.Views.{left_of}
-use Rattle.store_fields.specs.declared.fields.Fields.{Fields}
+use Rattle.store_pipeline.specs.Views.{left_of}
+use Rattle.store_pipeline.specs.declared.sorted.fields.Fields.{Fields}
 use Rattle.store_model.specs.Reading.{Documents}
 use Rattle.store_model.specs.Refusal.{refusal}
 use Rattle.store_model.specs.State.{AreKept, IsKept, IsName, Reply}
@@ -29,9 +29,9 @@ use Rattle.store_model.specs.declared.error.ErrorKind.TheVariants.{BadName}
 use Rattle.store_model.specs.declared.error.StoreError.{StoreError}
 use Rattle.store_question.specs.Asked.{Asked}
 use Rattle.store_question.specs.Reads.{Form, Reads}
-use Rattle.store_sorted.specs.Bodies.{AreBodies, ArrangedBy, IsBody, OfBody}
-use Rattle.store_sorted.specs.Order.{cut}
-use Rattle.store_sorted.specs.declared.arrangement.Arrangement.{Arrangement}
+use Rattle.store_pipeline.specs.Bodies.{AreBodies, ArrangedBy, IsBody, OfBody}
+use Rattle.store_pipeline.specs.Order.{cut}
+use Rattle.store_pipeline.specs.declared.sorted.arrangement.Arrangement.{Arrangement}
 use Rattle.store_table.proofs.OthersLemmas.{shows_then}
 use Rattle.store_table.specs.Moves.{Moves}
 use Rattle.store_table.specs.Rows.{TableRow}

@@ -8,13 +8,13 @@ use Rattle.bson_json.specs.Prints.{IsTextOf}
 use Rattle.bson_model.specs.View.{view}
 use Rattle.bson_model.specs.declared.extjson.ser.Mode.{Mode}
 use Rattle.cli_convert.specs.Parts.{InParts, Passed}
-use Rattle.cli_words.specs.Lines.{line}
+use Rattle.cli_commands.specs.Lines.{line}
 use Rattle.cli_convert.proofs.PartLemmas.{more_parts, one_part, passed_both}
-use Rattle.store_distinct.specs.declared.counted.Counted.{Counted}
+use Rattle.store_pipeline.specs.declared.sorted.counted.Counted.{Counted}
 use Rattle.store_model.specs.Refusal.{refusal}
-use Rattle.fallowtime_texts.specs.Printed as texts
-use Rattle.fallowtime_texts.specs.declared.printed.PrintFault.{PrintFault}
-use Rattle.fallowtime_texts.specs.declared.printed.PrintFault.TheVariants as faults
+use Rattle.cli_convert.specs.Printed as texts
+use Rattle.cli_convert.specs.declared.printed.PrintFault.{PrintFault}
+use Rattle.cli_convert.specs.declared.printed.PrintFault.TheVariants as faults
 use Rattle.fallowtime_commands.specs.Printing.{IsUnprinted, IsValueLine, PrintsLine, PrintsValue, counted_text, key_of_fault, kind_of_fault, update_text, upsert_text}
 use Rattle.fallowtime_commands.specs.declared.refusal.Refusal.{Refusal}
 

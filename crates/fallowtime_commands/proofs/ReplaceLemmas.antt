@@ -7,7 +7,7 @@ use Rattle.bson_model.specs.View.{content, members_of, pairs_of}
 use Rattle.bson_model.specs.declared.document.Document.{Document}
 use Rattle.store_model.specs.State.{id_key}
 use Rattle.fallowtime_commands.specs.Changing.{identified_by}
-use Rattle.fallowtime_texts.proofs.IdLemmas.{has_id}
+use Rattle.cli_convert.proofs.IdLemmas.{has_id}
 
 pub copied : (id : Value) (d e : Document) (m : Members) → pairs_of e ≡ pairs_of d → m ≡ identified_by id (content e) → m ≡ identified_by id (content d)
 copied id d e m same made = made ∙ ap (λ (ps : List (Key × Value)). identified_by id (members_of ps)) same

@@ -4,7 +4,7 @@ use Rattle.std.proofs.lemmas.List.{append_cancel_right}
 use Rattle.bson_base.specs.Kinds.{IsSound}
 use Rattle.bson_base.specs.Value.{document, has_key, Members, no_members, member}
 use Rattle.bson_json.specs.Prints.{IsTextOf}
-use Rattle.bson_json_laws.specs.Settled.{ComesBack, json_levels, settle_members}
+use Rattle.bson_json.specs.Settled.{ComesBack, json_levels, settle_members}
 use Rattle.bson_json_read.specs.Reading.{ReadsText}
 use Rattle.bson_json_read.specs.declared.error.Error.{Error}
 use Rattle.bson_json_read.specs.declared.error.Error.TheVariants.{Memory}
@@ -13,9 +13,9 @@ use Rattle.bson_model.specs.declared.document.Document.{Document}
 use Rattle.bson_model.specs.declared.extjson.ser.Mode.{Mode}
 use Rattle.bson_model.specs.declared.extjson.ser.Mode.TheVariants.{Canonical}
 use Rattle.cli_convert.specs.Lines.{Reads}
-use Rattle.cli_words.specs.Lines.{line}
-use Rattle.fallowtime_texts.specs.Made.{identified}
-use Rattle.fallowtime_texts.specs.declared.made.IdMaker.{IdMaker}
+use Rattle.cli_commands.specs.Lines.{line}
+use Rattle.cli_convert.specs.Made.{identified}
+use Rattle.cli_convert.specs.declared.made.IdMaker.{IdMaker}
 use Rattle.store_model.specs.State.{id_key, IsKept}
 use Rattle.fallowtime_commands.specs.Printing.{IsPrinted}
 use Rattle.fallowtime_commands.specs.declared.printing.Form.TheVariants.{Lines}

@@ -1,9 +1,9 @@
 -- What is wanted of documents of which all fields are wanted.
 use Rattle.std.proofs.Common.{◌≡◌, ℕ, List, [], ◌∷◌, Vec, Option, None, map, refl, sym, ap, subst}
 use Rattle.std.specs.declared.alloc.Global.{Global}
-use Rattle.store_fields.specs.declared.fields.Fields.{Fields}
+use Rattle.store_pipeline.specs.declared.sorted.fields.Fields.{Fields}
 use Rattle.store_model.specs.Reading.{Documents}
-use Rattle.store_sorted.specs.Bodies.{AreBodies}
+use Rattle.store_pipeline.specs.Bodies.{AreBodies}
 use Rattle.fallowtime_requests.specs.Fields.{left_by}
 
 unchanged : (ds : Documents) → map (left_by None) ds ≡ ds

@@ -10,7 +10,7 @@ use Rattle.store_pipeline.specs.declared.error.PipelineError.{PipelineError}
 use Rattle.store_pipeline.specs.declared.error.PipelineError.TheVariants as why
 use Rattle.store_pipeline.specs.declared.stage.Stage.{Stage}
 use Rattle.store_question.specs.Reads.{Form}
-use Rattle.store_sorted.specs.Bodies.{AreBodies}
+use Rattle.store_pipeline.specs.Bodies.{AreBodies}
 use Rattle.store_table.specs.Rows.{TableRow}
 use Rattle.fallowtime_commands.specs.declared.answer.Answer.{Answer}
 use Rattle.fallowtime_commands.specs.declared.answer.Answer.TheVariants as answer

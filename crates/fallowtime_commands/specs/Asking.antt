@@ -3,16 +3,16 @@ use Rattle.std.specs.Prelude.{◌≡◌, ◌-◌, ℕ, min, List, [], ◌∷◌,
 use Rattle.std.specs.declared.alloc.Global.{Global}
 use Rattle.bson_bytes.specs.Encode.{encode}
 use Rattle.store_asked.specs.Asking.{AskedFrom}
-use Rattle.store_distinct.specs.Counted.{AreDistinct, Holds, path_in}
-use Rattle.store_distinct.specs.declared.counted.Counted.{Counted}
-use Rattle.store_distinct.specs.declared.distinct.Distinct.{Distinct}
+use Rattle.store_pipeline.specs.Counted.{AreDistinct, Holds, path_in}
+use Rattle.store_pipeline.specs.declared.sorted.counted.Counted.{Counted}
+use Rattle.store_pipeline.specs.declared.sorted.distinct.Distinct.{Distinct}
 use Rattle.store_model.specs.Filter.{Path}
 use Rattle.store_model.specs.Reading.{Documents}
 use Rattle.store_model.specs.State as model
 use Rattle.store_model.specs.Table.{DocumentTable, state_of}
 use Rattle.store_model.specs.declared.error.StoreError.{StoreError}
 use Rattle.store_question.specs.Reads.{Form}
-use Rattle.store_sorted.specs.Bodies.{AreBodies, ArrangedBy}
+use Rattle.store_pipeline.specs.Bodies.{AreBodies, ArrangedBy}
 use Rattle.store_table.specs.Rows.{TableRow}
 use Rattle.bson_store.specs.Calls.{Does}
 use Rattle.bson_store.specs.Export.{bytes_of_each}

@@ -10,18 +10,18 @@ use Rattle.bson_store.specs.declared.edit.Edit.{Edit}
 use Rattle.bson_store.specs.declared.edit.Edit.TheVariants.{ReplaceRaw}
 use Rattle.bson_store.specs.declared.edit.ListRefusal.{ListRefusal}
 use Rattle.store_question.specs.Keeps.{Keeps}
-use Rattle.store_fields.specs.Views.{left_of}
-use Rattle.store_fields.specs.declared.fields.Fields.{Fields}
+use Rattle.store_pipeline.specs.Views.{left_of}
+use Rattle.store_pipeline.specs.declared.sorted.fields.Fields.{Fields}
 use Rattle.store_model.specs.Reading.{Documents}
 use Rattle.store_model.specs.State.{IsKept, IsName}
 use Rattle.store_model.specs.Table.{DocumentTable, documents_of}
 use Rattle.store_model.specs.declared.error.StoreError.{StoreError}
 use Rattle.store_question.specs.Asked.{Asked}
 use Rattle.store_question.specs.Reads.{Form, Reads}
-use Rattle.store_sorted.specs.Bodies.{AreBodies, ArrangedBy}
-use Rattle.store_sorted.specs.declared.arrangement.Arrangement.{Arrangement}
+use Rattle.store_pipeline.specs.Bodies.{AreBodies, ArrangedBy}
+use Rattle.store_pipeline.specs.declared.sorted.arrangement.Arrangement.{Arrangement}
 use Rattle.store_table.specs.Rows.{TableRow}
-use Rattle.store_update_read.specs.Outcome.{plans_of}
+use Rattle.store_question_read.specs.UpdateOutcome.{plans_of}
 use Rattle.fallowtime_requests.specs.declared.request.Wanted.{Wanted}
 use Rattle.fallowtime_requests.specs.declared.request.Work.{Work}
 use Rattle.fallowtime_requests.specs.declared.request.Work.TheVariants as work

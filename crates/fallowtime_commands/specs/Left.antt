@@ -12,7 +12,7 @@ use Rattle.store_model.specs.State as model
 use Rattle.store_model.specs.Table.{DocumentTable, IsRefusal, state_of}
 use Rattle.store_model.specs.declared.error.ErrorKind.{ErrorKind}
 use Rattle.store_update.specs.Plan.{Plan}
-use Rattle.store_update_read.specs.Outcome.{plans_of}
+use Rattle.store_question_read.specs.UpdateOutcome.{plans_of}
 use Rattle.store_question.specs.Asked.{Asked}
 use Rattle.store_question.specs.Reads.{Form, Reads, form_of}
 use Rattle.store_model.specs.declared.error.StoreError.{StoreError}

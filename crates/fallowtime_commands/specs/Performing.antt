@@ -4,14 +4,14 @@ use Rattle.bson_base.specs.Value.{Value}
 use Rattle.bson_model.specs.View.{content, view}
 use Rattle.bson_model.specs.declared.bson.Bson.{Bson}
 use Rattle.store_table.specs.Rows.{TableRow}
-use Rattle.store_filter.specs.Filters.{path_of}
+use Rattle.store_question.specs.Filters.{path_of}
 use Rattle.store_model.specs.State as model
 use Rattle.store_model.specs.State.{IsName}
 use Rattle.store_model.specs.declared.error.ErrorKind.{ErrorKind}
 use Rattle.store_model.specs.declared.error.ErrorKind.TheVariants.{BadKey, BadName, Memory}
 use Rattle.store_model.specs.declared.error.StoreError.{StoreError}
 use Rattle.store_question.specs.Reads.{form_of}
-use Rattle.store_update_read.specs.Outcome.{plans_of}
+use Rattle.store_question_read.specs.UpdateOutcome.{plans_of}
 use Rattle.bson_store.specs.Calls.{Does, HasIndex}
 use Rattle.bson_store.specs.Export.{bytes_of_each}
 use Rattle.bson_store.specs.Questions.{Indexed}

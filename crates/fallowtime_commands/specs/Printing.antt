@@ -11,18 +11,18 @@ use Rattle.bson_model.specs.declared.extjson.ser.Mode.{Mode}
 use Rattle.bson_model.specs.declared.extjson.ser.Mode.TheVariants.{Relaxed}
 use Rattle.bson_store.specs.Export.{bytes_of_each}
 use Rattle.cli_convert.specs.Parts.{InParts, Passed}
-use Rattle.cli_words.specs.Lines.{line}
+use Rattle.cli_commands.specs.Lines.{line}
 use Rattle.cli_convert.specs.Shown.{shown}
-use Rattle.store_distinct.specs.declared.counted.Counted.{Counted}
+use Rattle.store_pipeline.specs.declared.sorted.counted.Counted.{Counted}
 use Rattle.store_model.specs.Refusal.{refusal, refusal_at}
 use Rattle.store_model.specs.State.{IsKept}
 use Rattle.store_model.specs.declared.error.ErrorKind.{ErrorKind}
 use Rattle.store_model.specs.declared.error.ErrorKind.TheVariants.{BadKey, Database, Memory, ReservedKey, Writer}
 use Rattle.store_model.specs.declared.error.StoreError.{StoreError}
 use Rattle.store_update.specs.declared.error.UpdateError.{UpdateError}
-use Rattle.fallowtime_texts.specs.Printed.{holding}
-use Rattle.fallowtime_texts.specs.declared.printed.PrintFault.{PrintFault}
-use Rattle.fallowtime_texts.specs.declared.printed.PrintFault.TheVariants as faults
+use Rattle.cli_convert.specs.Printed.{holding}
+use Rattle.cli_convert.specs.declared.printed.PrintFault.{PrintFault}
+use Rattle.cli_convert.specs.declared.printed.PrintFault.TheVariants as faults
 use Rattle.fallowtime_commands.specs.declared.answer.Answer.{Answer}
 use Rattle.fallowtime_commands.specs.declared.answer.Answer.TheVariants as answer
 use Rattle.fallowtime_commands.specs.declared.printing.Form.{Form}

@@ -16,9 +16,9 @@ use sqlite::Alter;
 use sqlite_pages::Pages;
 use std::alloc::Global;
 use store_asked::{ReadOnlyStore, find_arranged, look_up_arranged};
+use store_pipeline::sorted::Arrangement;
 use store_pipeline::{Stage, run};
 use store_question::Question;
-use store_sorted::Arrangement;
 
 /// The arrangement that has all documents, as they come.
 fn all_as_they_come(alloc: Global) -> Arrangement

@@ -10,8 +10,8 @@ ghost use Rattle.fallowtime_commands.specs.declared.answer.Answer.TheVariants.{I
 
 use bson_store::{Bson, StoreError};
 use std::mem::replace;
-use store_distinct::Counted;
 use store_pipeline::PipelineError;
+use store_pipeline::sorted::Counted;
 use store_update::UpdateError;
 
 /// What a command that is done returns.

@@ -2,7 +2,7 @@
 
 ghost use Rattle.store_table.specs.Crash.{AddsNothing};
 ghost use Rattle.store_table.specs.Moves.{WasOpen};
-ghost use Rattle.store_filter.specs.Filters.{path_of};
+ghost use Rattle.store_question.specs.Filters.{path_of};
 ghost use Rattle.store_question.specs.Reads.{form_of};
 ghost use Rattle.bson_store.specs.Calls.{KeepsIndexes, Relates, store_state};
 ghost use Rattle.store_asked.specs.Asking.{AskedFrom};
@@ -15,9 +15,9 @@ use sqlite::Alter;
 use sqlite_pages::Pages;
 use std::alloc::Global;
 use store_asked::{ReadOnlyStore, TakeRow, check_row, look_up_answers, take_answers};
-use store_distinct::{Counted, Distinct};
-use store_pages::RowRef;
+use store_pipeline::sorted::{Counted, Distinct};
 use store_question::Question;
+use store_table::pages::RowRef;
 
 /// Counts the different values of the documents that it takes.
 #[derive(Drop)]

@@ -27,10 +27,9 @@ use sqlite::Alter;
 use std::alloc::{AllocError, Global};
 use std::mem::replace as take;
 use store_asked::find_arranged;
-use store_fields::Fields;
 use store_pipeline::left_of_body;
+use store_pipeline::sorted::{Arrangement, Fields};
 use store_question::Question;
-use store_sorted::Arrangement;
 
 /// How many documents there are at most, of those of a limit, if no more than the first is wanted.
 fn first_limit(limit: Option<usize>) -> Option<usize>

@@ -19,6 +19,7 @@ mod performing;
 mod printing;
 mod refusal;
 mod replacing;
+pub mod session;
 mod setting;
 mod storing;
 mod total;

@@ -3,7 +3,7 @@
 ghost use Rattle.std.specs.Prelude.{◌≡◌, IfOk, IfSome, IsTrue, None};
 ghost use Rattle.bson_base.specs.Device.{CanRefuse};
 ghost use Rattle.sqlite_wal.specs.Files.{seen_image};
-ghost use Rattle.store_pages.specs.Snapshot.{is_clean_of};
+ghost use Rattle.store_table.specs.Snapshot.{is_clean_of};
 ghost use Rattle.store_model.specs.State.{bytes, export, on};
 ghost use Rattle.bson_store.specs.Calls.{Does};
 ghost use Rattle.store_asked.specs.Reads.{OfFiles, Reads, Stays};
@@ -26,7 +26,7 @@ use sqlite_disk::{Disk, Files};
 use sqlite_pages::Pages;
 use std::alloc::Global;
 use store_asked::{ReadOnlyStore, open_files};
-use store_pages::Snapshot;
+use store_table::pages::Snapshot;
 
 /// Whether a refusal is one for want of memory, or by what the pages hold.
 fn is_untold(error: &StoreError) -> bool {

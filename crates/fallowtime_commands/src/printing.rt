@@ -3,7 +3,7 @@
 ghost use Rattle.std.specs.Prelude.{◌≡◌, OnErr, OnOk, Some, map, string_bytes};
 ghost use Rattle.std.specs.Io.KnownBytes.{Appends};
 ghost use Rattle.bson_base.specs.Device.{CanRefuse, Counts, TakesBeginning};
-ghost use Rattle.cli_words.specs.Lines.{concatenation};
+ghost use Rattle.cli_commands.specs.Lines.{concatenation};
 ghost use Rattle.bson_store.specs.Export.{bytes_of_each};
 ghost use Rattle.store_model.specs.Refusal.{refusal, refusal_at};
 ghost use Rattle.store_model.specs.declared.error.ErrorKind.TheVariants.{BadKey};
@@ -15,12 +15,11 @@ use crate::refusal::Refusal;
 use bson_base::{DeviceFault, Sink, write_all};
 use bson_store::extjson::Mode;
 use bson_store::{ErrorKind, StoreError};
-use cli_convert::shown;
-use cli_words::write_line;
-use fallowtime_texts::{PrintFault, text_of_body, text_of_value};
+use cli_commands::write_line;
+use cli_convert::{PrintFault, shown, text_of_body, text_of_value};
 use itoa::Buffer;
 use std::alloc::Global;
-use store_distinct::Counted;
+use store_pipeline::sorted::Counted;
 use store_update::UpdateError;
 
 /// How documents are printed.
@@ -205,7 +204,7 @@ fn print_values<O: Sink>(
     Ok(())
 }
 
-/// Writes texts, one after the other, as `write_parts` of cli_words does, which it keeps to itself.
+/// Writes texts, one after the other, as `write_parts` of cli_commands does, which it keeps to itself.
 fn write_parts<O: Sink>(output: &mut O, parts: &[&str]) -> Result<(), DeviceFault>
     requires { CanRefuse (O.tally output.old) }
     ensures counts { Counts (O.tally output.old).failures (O.tally output.new).failures result }

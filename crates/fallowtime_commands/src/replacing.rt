@@ -8,7 +8,7 @@ ghost use Rattle.fallowtime_commands.specs.Changing.{identified_by};
 
 use crate::setting::put_value;
 use bson_store::{Bson, Document};
-use fallowtime_texts::with_front_id;
+use cli_convert::with_front_id;
 use std::alloc::{AllocError, Global};
 use store_documents::ID_KEY;
 

@@ -6,7 +6,7 @@ ghost use Rattle.store_asked.specs.Asking.{AskedFrom};
 ghost use Rattle.store_asked.specs.Reads.{Reads, Stays};
 ghost use Rattle.store_model.specs.Reading.{Documents};
 ghost use Rattle.store_question.specs.Reads.{form_of};
-ghost use Rattle.store_sorted.specs.Bodies.{AreBodies};
+ghost use Rattle.store_pipeline.specs.Bodies.{AreBodies};
 ghost use Rattle.store_table.specs.Crash.{AddsNothing};
 ghost use Rattle.store_table.specs.Moves.{WasOpen};
 ghost use Rattle.fallowtime_commands.specs.Asking.{AreWanted};
@@ -18,8 +18,8 @@ use sqlite::Alter;
 use sqlite_pages::Pages;
 use std::alloc::{AllocError, Global};
 use store_asked::{ReadOnlyStore, find_arranged, look_up_arranged};
-use store_fields::Fields;
 use store_pipeline::left_of_each;
+use store_pipeline::sorted::Fields;
 use store_question::Question;
 
 /// The bodies of what is wanted of each document: of the fields that are given, or of all.

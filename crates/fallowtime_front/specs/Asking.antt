@@ -23,9 +23,9 @@ use Rattle.fallowtime_requests.specs.declared.request.Request.TheVariants as req
 use Rattle.fallowtime_requests.specs.declared.request.Wanted.{Wanted}
 use Rattle.fallowtime_requests.specs.declared.stop.Stop.{Stop}
 use Rattle.fallowtime_requests.specs.declared.stop.Stop.TheVariants as stop
-use Rattle.fallowtime_texts.specs.Lines.{ReadsLines}
-use Rattle.fallowtime_texts.specs.declared.lines.Taken.{Taken}
-use Rattle.fallowtime_texts.specs.declared.made.IdMaker.{IdMaker}
+use Rattle.cli_convert.specs.IdLines.{ReadsLines}
+use Rattle.cli_convert.specs.declared.id_lines.Taken.{Taken}
+use Rattle.cli_convert.specs.declared.made.IdMaker.{IdMaker}
 use Rattle.fallowtime_words.specs.declared.command.Command.{Command}
 use Rattle.fallowtime_words.specs.declared.command.Command.TheVariants as command
 use Rattle.fallowtime_words.specs.declared.words.Words.{Words as Wording}

@@ -5,13 +5,13 @@ use Rattle.bson_base.specs.Device.{Tally, TakesText}
 use Rattle.cli_convert.specs.Reports.{Reports, memory_line}
 use Rattle.cli_convert.specs.declared.stop.Stop.TheVariants as stop
 use Rattle.cli_files.specs.Fault.{fault_line}
-use Rattle.cli_words.specs.Lines.{line}
+use Rattle.cli_commands.specs.Lines.{line}
 use Rattle.fallowtime_commands.specs.Reports.{name_of, refusal_text}
 use Rattle.fallowtime_commands.specs.declared.refusal.Refusal.{Refusal}
 use Rattle.fallowtime_requests.specs.Reports.{unread_text}
 use Rattle.fallowtime_requests.specs.declared.unread.Unread.TheVariants as unread
-use Rattle.fallowtime_session.specs.Places.{place_text}
-use Rattle.fallowtime_session.specs.declared.places.Place.{Place}
+use Rattle.fallowtime_commands.specs.Places.{place_text}
+use Rattle.fallowtime_commands.specs.declared.session.places.Place.{Place}
 use Rattle.store_model.specs.declared.error.ErrorKind.{ErrorKind}
 use Rattle.store_model.specs.declared.error.ErrorKind.TheVariants.{BadLength, TooLong}
 use Rattle.fallowtime_front.specs.declared.ending.Ended.{Ended}

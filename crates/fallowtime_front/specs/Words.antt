@@ -1,6 +1,6 @@
 -- The words that aren't in the program's table of commands.
 use Rattle.std.specs.Prelude.{◌≡◌, ◌<◌, ◌^◌, ℕ, List, [], ◌∷◌, codes}
-use Rattle.cli_words.specs.Words.{IsFile}
+use Rattle.cli_commands.specs.Words.{IsFile}
 use Rattle.std.specs.Str.Parse.{IsNumeral, digits_value, without_leading_plus}
 
 -- the words begin with `--wait` and a number of seconds

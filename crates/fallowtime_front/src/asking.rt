@@ -8,12 +8,12 @@ ghost use Rattle.fallowtime_words.specs.declared.command.Command.TheVariants.{Im
 use crate::ending::Ended;
 use bson_base::{ReadAllError, Source, read_all};
 use bson_model::extjson::Mode;
+use cli_convert::{IdMaker, read_lines};
 use fallowtime_commands::{Form, Refusal};
 use fallowtime_requests::{
     Existing, Question, Request, along_path, question_of_words, upsert_by_words, want,
     wanted_of_words,
 };
-use fallowtime_texts::{IdMaker, read_lines};
 use fallowtime_words::{Argument, Command, Options, Words};
 use json::Scratch;
 use std::alloc::Global;

@@ -5,7 +5,7 @@ ghost use Rattle.std.specs.Path.{path_file_name};
 ghost use Rattle.fallowtime_front.specs.Words.{AsksForCopy, AsksToWait};
 ghost use Rattle.fallowtime_front.specs.declared.words.Program.TheVariants.{Fallowtime, Json};
 
-use cli_words::is_file;
+use cli_commands::is_file;
 use std::path::Path;
 use std::{env, io};
 

@@ -11,8 +11,8 @@ use Rattle.fallowtime_commands.specs.declared.answer.Answer.{Answer}
 use Rattle.fallowtime_commands.specs.declared.answer.Answer.TheVariants as answer
 use Rattle.fallowtime_messages.specs.Waiting.{BatchTold, ClosedTold, MoreTold, Wait}
 use Rattle.fallowtime_messages.specs.declared.batch.Batch.{Batch}
-use Rattle.fallowtime_plans.specs.declared.asked.Way.{Way}
-use Rattle.fallowtime_plans.specs.declared.asked.Way.TheVariants as way
+use Rattle.fallowtime_statements.specs.declared.plans.asked.Way.{Way}
+use Rattle.fallowtime_statements.specs.declared.plans.asked.Way.TheVariants as way
 use Rattle.fallowtime_statements.specs.declared.fault.Code.TheVariants as code
 use Rattle.fallowtime_messages.specs.Answers as told
 use Rattle.fallowtime_messages.specs.Outcomes.{Closes, Tells, TellsBatch, TellsBy, TellsClosed, TellsDocuments, TellsFound, TellsMore, batch_key, with_number}

@@ -11,7 +11,7 @@ use Rattle.store_table.specs.Rows.{TableRow}
 use Rattle.bson_store.proofs.MoveLemmas.{rests}
 use Rattle.fallowtime_commands.proofs.CrashLemmas.{left_by_request, more_by_request}
 use Rattle.fallowtime_commands.specs.Performing.{reply_of}
-use Rattle.fallowtime_session.specs.Deeds.{Changes, Deed, Did, IsOpenFor, LeavesDeed, LeftByDeed}
+use Rattle.fallowtime_commands.specs.Deeds.{Changes, Deed, Did, IsOpenFor, LeavesDeed, LeftByDeed}
 use Rattle.fallowtime_messages.specs.Done.{AreDone, DidAll, IsOpenAlong, LeavesDeeds, LeftAlong}
 
 -- what is left of one more after others is left along them all

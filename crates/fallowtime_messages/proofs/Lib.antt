@@ -7,3 +7,4 @@ pub mod BatchLemmas
 pub mod OutcomeLemmas
 pub mod ServeLemmas
 pub mod WaitLemmas
+pub mod ExchangeLemmas

@@ -15,11 +15,11 @@ use Rattle.fallowtime_commands.specs.declared.answer.Answer.{Answer}
 use Rattle.fallowtime_commands.specs.declared.answer.Answer.TheVariants as answer
 use Rattle.fallowtime_requests.specs.declared.request.Request.{Request}
 use Rattle.fallowtime_messages.specs.Waiting.{Wait}
-use Rattle.fallowtime_session.specs.Deeds.{Deed, Did}
+use Rattle.fallowtime_commands.specs.Deeds.{Deed, Did}
 use Rattle.fallowtime_messages.specs.Done.{DoesAll}
 use Rattle.fallowtime_messages.specs.Outcomes.{CarriesOrStarts, DidNext, Enters, GoesIn, GoesOr, GoesOut, IsImport, IsRenameTo, Leads, LeadsOr, PutsOr, RenamesOrStarts, StartsIn, StartsLed, StartsOut, TellsBarred, TellsOut, TellsRenamed, TellsUnfound, WasRenamed, is_vacant, joined}
 use Rattle.fallowtime_messages.specs.Runs.{deed_of}
-use Rattle.fallowtime_plans.specs.declared.asked.Plan.TheVariants as plan
+use Rattle.fallowtime_statements.specs.declared.plans.asked.Plan.TheVariants as plan
 use Rattle.fallowtime_statements.specs.declared.statement.Statement.{Statement}
 use Rattle.fallowtime_messages.proofs.DoneLemmas.{none_done, one_before, one_done}
 

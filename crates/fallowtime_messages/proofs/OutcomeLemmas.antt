@@ -14,17 +14,17 @@ use Rattle.store_model.specs.declared.error.StoreError.{StoreError}
 use Rattle.fallowtime_commands.specs.Performing.{IsAnswerTo}
 use Rattle.fallowtime_commands.specs.declared.answer.Answer.{Answer}
 use Rattle.fallowtime_commands.specs.declared.answer.Answer.TheVariants as answer
-use Rattle.fallowtime_session.specs.Deeds.{Deed, Did}
+use Rattle.fallowtime_commands.specs.Deeds.{Deed, Did}
 use Rattle.fallowtime_messages.specs.Answers as told
 use Rattle.fallowtime_messages.specs.Done.{DoesAll}
 use Rattle.fallowtime_messages.specs.Outcomes.{AreImports, AreMeant, Carries, CarriesOrStarts, Comes, InsertsOrStarts, IsImport, IsMeant, PutsAll, Starts, Tells, TellsBy, TellsClosed, TellsFault, TellsMore, TellsWritten, joined, told_by, told_of}
-use Rattle.fallowtime_plans.specs.Plans.{Asks, IsRefused}
+use Rattle.fallowtime_statements.specs.Plans.{Asks, IsRefused}
 use Rattle.fallowtime_messages.specs.Runs.{RunsTo, Sums, changes, counts, deed_of, ids_from}
-use Rattle.fallowtime_plans.specs.declared.asked.Plan.{Plan}
-use Rattle.fallowtime_plans.specs.declared.asked.Plan.TheVariants as plan
+use Rattle.fallowtime_statements.specs.declared.plans.asked.Plan.{Plan}
+use Rattle.fallowtime_statements.specs.declared.plans.asked.Plan.TheVariants as plan
 use Rattle.fallowtime_statements.specs.declared.statement.Statement.{Statement}
-use Rattle.fallowtime_plans.specs.declared.asked.Way.{Way}
-use Rattle.fallowtime_plans.specs.declared.asked.Way.TheVariants as way
+use Rattle.fallowtime_statements.specs.declared.plans.asked.Way.{Way}
+use Rattle.fallowtime_statements.specs.declared.plans.asked.Way.TheVariants as way
 use Rattle.fallowtime_statements.specs.declared.fault.Code.{Code}
 use Rattle.fallowtime_statements.specs.declared.fault.Fault.{Fault}
 use Rattle.fallowtime_statements.specs.declared.fault.Fault.TheVariants.{Memory, Refused}

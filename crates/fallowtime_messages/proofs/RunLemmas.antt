@@ -8,7 +8,7 @@ use Rattle.store_table.specs.Moves.{Moves, WasOpen}
 use Rattle.fallowtime_commands.specs.Left.{LeavesRequest}
 use Rattle.fallowtime_commands.specs.Performing.{IsAnswerTo, Performs, reply_of}
 use Rattle.fallowtime_commands.specs.declared.answer.Answer.{Answer}
-use Rattle.fallowtime_session.specs.Deeds.{Deed, Did}
+use Rattle.fallowtime_commands.specs.Deeds.{Deed, Did}
 use Rattle.fallowtime_messages.specs.Done.{DidAll, DoesAll}
 use Rattle.fallowtime_messages.specs.Runs.{Adds, AllGoOn, AreRun, Begin, IsDeedOf, Keeps, RunsTo, StopsAtOne, Sums, WritesOne, changed_of, changes, count_of, counts, deed_of, errors_from, errors_of, ids_from, ids_of, is_refused}
 use Rattle.fallowtime_statements.specs.declared.statement.Statement.{Statement}

@@ -20,7 +20,7 @@ use Rattle.bson_message.specs.declared.section.Sequence.{Sequence}
 use Rattle.bson_model.specs.View.{content}
 use Rattle.bson_model.specs.declared.document.Document.{Document}
 use Rattle.bson_raw.specs.View.{bytes_of}
-use Rattle.fallowtime_session.specs.Deeds.{Deed}
+use Rattle.fallowtime_commands.specs.Deeds.{Deed}
 use Rattle.fallowtime_messages.specs.Waiting.{Wait}
 use Rattle.fallowtime_messages.specs.Answers as told
 use Rattle.fallowtime_messages.specs.Done.{DoesAll}

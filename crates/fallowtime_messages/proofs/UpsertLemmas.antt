@@ -16,15 +16,15 @@ use Rattle.fallowtime_commands.specs.Reports.{update_name}
 use Rattle.fallowtime_commands.specs.declared.answer.Answer.{Answer}
 use Rattle.fallowtime_commands.specs.declared.answer.Answer.TheVariants as answer
 use Rattle.fallowtime_messages.specs.Waiting.{Wait}
-use Rattle.fallowtime_session.specs.Deeds.{Deed, Did}
+use Rattle.fallowtime_commands.specs.Deeds.{Deed, Did}
 use Rattle.fallowtime_messages.specs.Answers as told
 use Rattle.fallowtime_messages.specs.Done.{DidAll, DoesAll}
 use Rattle.fallowtime_messages.specs.Outcomes.{CarriesOrStarts, DidNext, Follows, GoesFound, GoesOrStarts, GoesPut, Leads, LeadsOrStarts, Shows, ShowsOrStarts, Tells, TellsNotPut, TellsShown, is_none}
 use Rattle.fallowtime_messages.specs.Runs.{Begin, deed_of}
 use Rattle.fallowtime_statements.specs.Codes.{code_of, update_code}
-use Rattle.fallowtime_plans.specs.declared.asked.Plan.TheVariants as plan
+use Rattle.fallowtime_statements.specs.declared.plans.asked.Plan.TheVariants as plan
 use Rattle.fallowtime_statements.specs.declared.statement.Statement.{Statement}
-use Rattle.fallowtime_plans.specs.declared.asked.Way.TheVariants as way
+use Rattle.fallowtime_statements.specs.declared.plans.asked.Way.TheVariants as way
 use Rattle.fallowtime_messages.proofs.DoneLemmas.{none_done, one_before, one_done}
 
 -- ---- what is carried out begins

@@ -5,7 +5,7 @@ use Rattle.bson_pairs.specs.Keyed.{Key, put}
 use Rattle.bson_model.specs.View.{items_of, view}
 use Rattle.bson_model.specs.declared.bson.Bson.{Bson}
 use Rattle.fallowtime_statements.specs.Codes.{code_name, code_number}
-use Rattle.fallowtime_plans.specs.Told.{done}
+use Rattle.fallowtime_statements.specs.Told.{done}
 use Rattle.fallowtime_statements.specs.declared.fault.Code.{Code}
 use Rattle.fallowtime_statements.specs.declared.fault.Code.TheVariants as code
 use Rattle.bson_base.specs.Value.{Value, Items, Members, array, boolean, document, double, int32, int64, item, member, no_items, no_members, scalar, string}

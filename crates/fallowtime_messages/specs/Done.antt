@@ -1,4 +1,4 @@
--- Requests that were done on a store, one after the other (as the lines of a session, `Deeds` of fallowtime_session).
+-- Requests that were done on a store, one after the other (as the lines of a session, `Deeds` of fallowtime_commands).
 use Rattle.std.specs.Prelude.{◌≡◌, List, [], ◌∷◌, Bool, IsTrue, Some}
 use Rattle.sqlite.specs.Effect.{Database}
 use Rattle.sqlite.specs.State.{State}
@@ -6,7 +6,7 @@ use Rattle.sqlite.specs.Tree.{Trees}
 use Rattle.store_table.specs.Beside.{ShowsOthers}
 use Rattle.store_table.specs.Moves.{Moves}
 use Rattle.store_table.specs.Rows.{TableRow}
-use Rattle.fallowtime_session.specs.Deeds.{Changes, Deed, IsOpenFor, LeftByDeed}
+use Rattle.fallowtime_commands.specs.Deeds.{Changes, Deed, IsOpenFor, LeftByDeed}
 
 -- each over the rows that the one before it left
 abbrev pub AreDone : List Deed → List TableRow → List TableRow → Type 0

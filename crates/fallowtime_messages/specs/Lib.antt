@@ -5,3 +5,5 @@ pub mod Outcomes
 pub mod Serving
 pub mod Waits
 pub mod Waiting
+pub mod Databases
+pub mod Exchanges

@@ -11,7 +11,7 @@ use Rattle.bson_message.specs.declared.section.Sequence.{Sequence}
 use Rattle.bson_model.specs.View.{content, items_of, view}
 use Rattle.bson_model.specs.declared.document.Document.{Document}
 use Rattle.bson_store.specs.Export.{bytes_of_each}
-use Rattle.store_distinct.specs.Counted.{value_in}
+use Rattle.store_pipeline.specs.Counted.{value_in}
 use Rattle.store_model.specs.Refusal.{kind_name}
 use Rattle.store_model.specs.declared.error.StoreError.{StoreError}
 use Rattle.fallowtime_commands.specs.Performing.{IsAnswerTo}
@@ -22,20 +22,20 @@ use Rattle.fallowtime_requests.specs.declared.request.Existing.TheVariants as ex
 use Rattle.fallowtime_requests.specs.declared.request.Request.{Request}
 use Rattle.fallowtime_requests.specs.declared.request.Request.TheVariants as request
 use Rattle.fallowtime_requests.specs.declared.request.Transfer.TheVariants as transfer
-use Rattle.fallowtime_session.specs.Deeds.{Deed, Did}
+use Rattle.fallowtime_commands.specs.Deeds.{Deed, Did}
 use Rattle.fallowtime_messages.specs.Waiting.{BatchTold, ClosedTold, MoreTold, Wait}
 use Rattle.fallowtime_messages.specs.declared.batch.Batch.{Batch}
 use Rattle.fallowtime_messages.specs.Answers as told
 use Rattle.fallowtime_messages.specs.Done.{DidAll}
 use Rattle.fallowtime_statements.specs.Codes.{code_of, rename_code, update_code}
-use Rattle.fallowtime_plans.specs.Plans.{Asks, IsRefused}
-use Rattle.fallowtime_plans.specs.Told.{done}
+use Rattle.fallowtime_statements.specs.Plans.{Asks, IsRefused}
+use Rattle.fallowtime_statements.specs.Told.{done}
 use Rattle.fallowtime_messages.specs.Runs.{AreRun, Begin, IsDeedOf, changes, counts, errors_from, ids_from}
-use Rattle.fallowtime_plans.specs.declared.asked.Plan.{Plan}
-use Rattle.fallowtime_plans.specs.declared.asked.Plan.TheVariants as plan
+use Rattle.fallowtime_statements.specs.declared.plans.asked.Plan.{Plan}
+use Rattle.fallowtime_statements.specs.declared.plans.asked.Plan.TheVariants as plan
 use Rattle.fallowtime_statements.specs.declared.statement.Statement.{Statement}
-use Rattle.fallowtime_plans.specs.declared.asked.Way.{Way}
-use Rattle.fallowtime_plans.specs.declared.asked.Way.TheVariants as way
+use Rattle.fallowtime_statements.specs.declared.plans.asked.Way.{Way}
+use Rattle.fallowtime_statements.specs.declared.plans.asked.Way.TheVariants as way
 use Rattle.fallowtime_statements.specs.declared.fault.Code.TheVariants as code
 use Rattle.fallowtime_statements.specs.declared.fault.Fault.{Fault}
 use Rattle.fallowtime_statements.specs.declared.fault.Fault.TheVariants.{Memory, Refused}

@@ -10,7 +10,7 @@ use Rattle.fallowtime_commands.specs.Performing.{IsAnswerTo}
 use Rattle.fallowtime_commands.specs.Reports.{update_name}
 use Rattle.fallowtime_commands.specs.declared.answer.Answer.{Answer}
 use Rattle.fallowtime_commands.specs.declared.answer.Answer.TheVariants as answer
-use Rattle.fallowtime_session.specs.Deeds.{Deed, Did}
+use Rattle.fallowtime_commands.specs.Deeds.{Deed, Did}
 use Rattle.fallowtime_messages.specs.Answers.{upserted, write_error}
 use Rattle.fallowtime_statements.specs.Codes.{code_of, update_code}
 use Rattle.fallowtime_statements.specs.declared.statement.Statement.{Statement}

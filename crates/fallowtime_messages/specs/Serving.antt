@@ -17,12 +17,12 @@ use Rattle.bson_message.specs.declared.op_msg.OpMsg.{OpMsg}
 use Rattle.bson_message.specs.declared.op_query.OpQuery.{OpQuery}
 use Rattle.bson_message.specs.declared.section.Sequence.{Sequence}
 use Rattle.bson_raw.specs.View.{bytes_of}
-use Rattle.fallowtime_session.specs.Deeds.{Deed}
+use Rattle.fallowtime_commands.specs.Deeds.{Deed}
 use Rattle.fallowtime_messages.specs.Waiting.{Wait}
 use Rattle.fallowtime_messages.specs.Answers as told
 use Rattle.fallowtime_statements.specs.Fields.{first_key, named}
 use Rattle.fallowtime_messages.specs.Outcomes.{Comes}
-use Rattle.fallowtime_plans.specs.Told.{hello}
+use Rattle.fallowtime_statements.specs.Told.{hello}
 use Rattle.fallowtime_statements.specs.declared.fault.Code.TheVariants as code
 use Rattle.fallowtime_statements.specs.declared.name.Name.TheVariants as name
 

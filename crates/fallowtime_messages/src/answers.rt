@@ -8,7 +8,7 @@ ghost use Rattle.fallowtime_messages.specs.Answers.{after_changed, after_list};
 
 use bson_base::DoubleBits;
 use bson_model::{Array, Bson, Document};
-use fallowtime_plans::done;
+use fallowtime_statements::plans::done;
 use fallowtime_statements::{Code, put};
 use std::alloc::{AllocError, Global};
 

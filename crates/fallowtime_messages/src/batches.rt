@@ -13,7 +13,7 @@ use crate::telling::{items_of_each, tell};
 use bson_model::{Array, Bson, Document};
 use bson_store::StoreError;
 use fallowtime_commands::{Answer, update_name};
-use fallowtime_plans::Way;
+use fallowtime_statements::plans::Way;
 use fallowtime_statements::{Code, code_of, update_code};
 use std::alloc::{AllocError, Global};
 use std::mem::replace;

@@ -6,7 +6,7 @@ ghost use Rattle.bson_store.specs.Export.{bytes_of_each};
 ghost use Rattle.fallowtime_messages.specs.Waiting.{Wait, waiting};
 ghost use Rattle.fallowtime_messages.specs.Done.{DoesAll};
 ghost use Rattle.fallowtime_messages.specs.Outcomes.{CarriesOrStarts, InsertsOrStarts, PutsAll, number_of};
-ghost use Rattle.fallowtime_plans.specs.declared.asked.Plan.TheVariants as plans;
+ghost use Rattle.fallowtime_statements.specs.declared.plans.asked.Plan.TheVariants as plans;
 
 use crate::batches::{tell_by, tell_closed, tell_more};
 use crate::cursors::Cursors;
@@ -18,8 +18,8 @@ use crate::writing::{discard, perform_statement, write_all};
 use bson_model::Document;
 use bson_store::{Store, StoreError};
 use fallowtime_commands::Answer;
-use fallowtime_plans::{Plan, Way};
 use fallowtime_statements::Statement;
+use fallowtime_statements::plans::{Plan, Way};
 use sqlite::Alter;
 use std::alloc::{AllocError, Global};
 

@@ -5,9 +5,9 @@ ghost use Rattle.std.specs.List.{AllZip};
 ghost use Rattle.bson_store.specs.Export.{bytes_of_each};
 ghost use Rattle.fallowtime_messages.specs.Outcomes.{IsImport, joined};
 
-use fallowtime_plans::copy_of;
 use fallowtime_requests::{Existing, Request};
 use fallowtime_statements::Statement;
+use fallowtime_statements::plans::copy_of;
 use std::alloc::{AllocError, Global};
 
 /// The bytes of documents, one after the other.

@@ -8,7 +8,7 @@ ghost use Rattle.bson_store.specs.Export.{bytes_of_each};
 ghost use Rattle.fallowtime_messages.specs.Waiting.{Wait};
 ghost use Rattle.fallowtime_messages.specs.Done.{DoesAll};
 ghost use Rattle.fallowtime_messages.specs.Outcomes.{CarriesOrStarts, GoesIn, GoesOut, GoesOr, LeadsOr, PutsOr, RenamesOrStarts, StartsIn, StartsOut, TellsBarred, TellsOut, TellsRenamed, TellsUnfound, WasRenamed, is_vacant};
-ghost use Rattle.fallowtime_plans.specs.declared.asked.Plan.TheVariants as plans;
+ghost use Rattle.fallowtime_statements.specs.declared.plans.asked.Plan.TheVariants as plans;
 ghost use Rattle.fallowtime_statements.specs.declared.statement.Statement.{Statement as Asked};
 
 use crate::answers::{found, refused_as};
@@ -19,8 +19,8 @@ use crate::writing::{discard, perform_statement};
 use bson_model::Document;
 use bson_store::{Store, StoreError};
 use fallowtime_commands::{Answer, perform};
-use fallowtime_plans::done;
 use fallowtime_requests::{Request, Transfer};
+use fallowtime_statements::plans::done;
 use fallowtime_statements::{Code, Statement, code_of, rename_code};
 use sqlite::Alter;
 use std::alloc::{AllocError, Global};

@@ -24,9 +24,9 @@ use bson_message::{Body, OpMsg, OpQuery, Sequence, message_of, old_reply, reply}
 use bson_model::Document;
 use bson_raw::RawDocument;
 use bson_store::Store;
-use fallowtime_plans::{hello, plan};
+use cli_convert::IdMaker;
+use fallowtime_statements::plans::{hello, plan};
 use fallowtime_statements::{Code, Fault, Name, first_key, name_of};
-use fallowtime_texts::IdMaker;
 use sqlite::Alter;
 use std::alloc::{AllocError, Global};
 

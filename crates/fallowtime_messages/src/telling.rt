@@ -11,8 +11,8 @@ ghost use Rattle.fallowtime_commands.specs.declared.answer.Answer.TheVariants as
 ghost use Rattle.fallowtime_messages.specs.Answers.{counted};
 ghost use Rattle.fallowtime_messages.specs.Answers as told;
 ghost use Rattle.fallowtime_messages.specs.Outcomes.{IsMeant, Tells, TellsWritten};
-ghost use Rattle.fallowtime_plans.specs.declared.asked.Way.TheVariants as ways;
-ghost use Rattle.store_distinct.specs.Counted.{value_in};
+ghost use Rattle.fallowtime_statements.specs.declared.plans.asked.Way.TheVariants as ways;
+ghost use Rattle.store_pipeline.specs.Counted.{value_in};
 
 use crate::answers::{
     collection, counts, dropped, found, group, indexes, made, modified, refused, unindexed, values,
@@ -23,10 +23,10 @@ use bson_model::{Array, Bson, Document};
 use bson_raw::RawDocument;
 use bson_store::StoreError;
 use fallowtime_commands::{Answer, update_name};
-use fallowtime_plans::Way;
+use fallowtime_statements::plans::Way;
 use fallowtime_statements::{code_of, update_code};
 use std::alloc::{AllocError, Global};
-use store_distinct::Counted;
+use store_pipeline::sorted::Counted;
 use store_update::UpdateError;
 
 /// How many of those that are found are counted.

@@ -8,7 +8,7 @@ ghost use Rattle.bson_store.specs.Export.{bytes_of_each};
 ghost use Rattle.fallowtime_messages.specs.Waiting.{Wait};
 ghost use Rattle.fallowtime_messages.specs.Done.{DoesAll};
 ghost use Rattle.fallowtime_messages.specs.Outcomes.{CarriesOrStarts, DidNext, GoesFound, GoesOrStarts, GoesPut, LeadsOrStarts, ShowsOrStarts, TellsFirst, TellsNotPut, TellsShown, is_none};
-ghost use Rattle.fallowtime_plans.specs.declared.asked.Plan.TheVariants as plans;
+ghost use Rattle.fallowtime_statements.specs.declared.plans.asked.Plan.TheVariants as plans;
 
 use crate::answers::{put_in, refused};
 use crate::telling::{item_of, tell};
@@ -16,7 +16,7 @@ use crate::writing::{discard, perform_statement};
 use bson_model::{Bson, Document};
 use bson_store::{Store, StoreError};
 use fallowtime_commands::{Answer, update_name};
-use fallowtime_plans::Way;
+use fallowtime_statements::plans::Way;
 use fallowtime_statements::{Statement, code_of, update_code};
 use sqlite::Alter;
 use std::alloc::{AllocError, Global};

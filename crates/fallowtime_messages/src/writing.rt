@@ -4,7 +4,7 @@ ghost use Rattle.std.specs.Prelude.{◌≡◌, ◌++◌, ◌&&◌, [], IfOk, OnO
 ghost use Rattle.bson_model.specs.View.{view};
 ghost use Rattle.bson_store.specs.Calls.{store_state};
 ghost use Rattle.fallowtime_commands.specs.Performing.{IsAnswerTo};
-ghost use Rattle.fallowtime_session.specs.Deeds.{Did};
+ghost use Rattle.fallowtime_commands.specs.Deeds.{Did};
 ghost use Rattle.fallowtime_messages.specs.Done.{DoesAll};
 ghost use Rattle.fallowtime_messages.specs.Runs.{Adds, RunsTo, Sums, WritesOne, changed_of, count_of, deed_of, errors_of, ids_of, is_refused};
 

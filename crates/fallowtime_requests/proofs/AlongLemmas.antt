@@ -7,7 +7,7 @@ use Rattle.fallowtime_requests.specs.declared.request.Request.{Request}
 use Rattle.fallowtime_requests.specs.declared.request.Request.TheVariants as request
 use Rattle.store_update.specs.Plan.{Change}
 use Rattle.store_update.specs.declared.operation.Step.{Step}
-use Rattle.store_update_read.specs.Outcome.{plans_of}
+use Rattle.store_question_read.specs.UpdateOutcome.{plans_of}
 
 -- it stays, or becomes what is said
 pub stays : (b : Bool) (was : Request) (P : Request → Type 0) → b ≡ false → BecomesIf b was P was

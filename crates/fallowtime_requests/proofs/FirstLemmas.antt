@@ -5,7 +5,7 @@ use Rattle.fallowtime_requests.specs.Inputs.{Given, IsId, IsText}
 use Rattle.fallowtime_requests.specs.Reading.{IsUnread, StopsText}
 use Rattle.fallowtime_requests.specs.declared.stop.Stop.{Stop}
 use Rattle.fallowtime_requests.specs.declared.unread.Unread.TheVariants as unread
-use Rattle.fallowtime_texts.specs.declared.made.IdMaker.{IdMaker}
+use Rattle.cli_convert.specs.declared.made.IdMaker.{IdMaker}
 use Rattle.fallowtime_words.specs.declared.table.Argument.TheVariants.{Collection, Id, Key, Value}
 
 module _ {X : Type 0} (seen : X → Given) (m : IdMaker) where

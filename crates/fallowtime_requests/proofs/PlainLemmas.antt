@@ -1,8 +1,8 @@
 -- Why what the options of a command line want can't be read.
 use Rattle.std.proofs.Common.{◌≡◌, ℕ, true, false, List, Option, inr, refl}
 use Rattle.fallowtime_words.specs.declared.words.Words.{Words as Wording}
-use Rattle.store_sorted.specs.Bodies.{keys_of}
-use Rattle.store_sorted.specs.declared.arrangement.Arrangement.{Arrangement}
+use Rattle.store_pipeline.specs.Bodies.{keys_of}
+use Rattle.store_pipeline.specs.declared.sorted.arrangement.Arrangement.{Arrangement}
 use Rattle.fallowtime_requests.specs.Arranging.{ReadsSort, StopsFields, StopsSort, StopsWanted, text_in}
 use Rattle.fallowtime_requests.specs.Plain.{are_plainly}
 use Rattle.fallowtime_requests.specs.declared.stop.Stop.{Stop}

@@ -16,8 +16,8 @@ use Rattle.store_pipeline.specs.declared.stage.Stage.TheVariants as stage
 use Rattle.store_question.specs.Asked.{all_of, no_asked}
 use Rattle.store_question.specs.declared.question.Question.{Question}
 use Rattle.store_question_read.specs.Outcome.{Asks as StandsFor}
-use Rattle.store_sorted.specs.Bodies.{keys_of}
-use Rattle.store_sorted.specs.declared.keys.SortKey.{SortKey}
+use Rattle.store_pipeline.specs.Bodies.{keys_of}
+use Rattle.store_pipeline.specs.declared.sorted.keys.SortKey.{SortKey}
 use Rattle.fallowtime_requests.specs.Inputs.{tree}
 use Rattle.fallowtime_requests.specs.Orders.{keys_under}
 use Rattle.fallowtime_requests.specs.Reading.{StopsAmong, StopsNamed, StopsQuery, StopsStage}

@@ -10,7 +10,7 @@ use Rattle.fallowtime_requests.specs.Requests.{AreWritten, IsFirstUnfit}
 use Rattle.fallowtime_requests.specs.Streams.{PutsAll, PutsBehind, StopsDocumentAt}
 use Rattle.fallowtime_requests.specs.declared.stop.Stop.{Stop}
 use Rattle.fallowtime_requests.specs.declared.stop.Stop.TheVariants.{Words, Memory}
-use Rattle.fallowtime_texts.specs.declared.made.IdMaker.{IdMaker}
+use Rattle.cli_convert.specs.declared.made.IdMaker.{IdMaker}
 
 pub unread : (m n : IdMaker) (i : ℕ) (j : Json) (old new : List ℕ) (s : Stop) → StopsDocumentAt i (read_top j) s → PutsBehind m n i j old new (Err s)
 unread m n i j old new (Words u) (none, said) = (inl none, said)

@@ -14,7 +14,7 @@ use Rattle.fallowtime_requests.specs.Requests.{IsStream}
 use Rattle.fallowtime_requests.specs.Streams.{PutsAll, StopsBytes}
 use Rattle.fallowtime_requests.specs.declared.stop.Stop.{Stop}
 use Rattle.fallowtime_requests.specs.declared.stop.Stop.TheVariants.{Words, Memory}
-use Rattle.fallowtime_texts.specs.declared.made.IdMaker.{IdMaker}
+use Rattle.cli_convert.specs.declared.made.IdMaker.{IdMaker}
 
 array_seen : (v : Tree Global) (js : Vec (Tree Global) Global) (shown : List (Tree Global)) → v ≡ Array js → shown ≡ js.items → value_view v ≡ array (items_view shown)
 array_seen v js shown h k = rw (h, k) (search (rules, the_lemmas))

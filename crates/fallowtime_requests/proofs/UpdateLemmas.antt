@@ -2,14 +2,14 @@
 use Rattle.std.proofs.Common.{Bor, Result, Ok, Err, Vec, Global, ◌≡◌, ℕ, List, [], ◌∷◌, length, get_or, map, inl, inr, refl, ap, subst, sym}
 use Rattle.std.specs.Prelude.{MatchResult}
 use Rattle.store_update.specs.declared.operation.Step.{Step}
-use Rattle.store_update_read.specs.Outcome.{plans_of}
+use Rattle.store_question_read.specs.UpdateOutcome.{plans_of}
 use Rattle.store_question.specs.declared.question.Question.{Question}
 use Rattle.store_update.specs.Plan.{Plan}
 use Rattle.fallowtime_requests.specs.Inputs.{Given}
 use Rattle.fallowtime_requests.specs.Reading.{AsMany, IsFirst, IsUnread, StopsOptions}
 use Rattle.fallowtime_requests.specs.Requests.{NameQueryAndUpdate}
 use Rattle.fallowtime_requests.specs.declared.stop.Stop.{Stop}
-use Rattle.fallowtime_texts.specs.declared.made.IdMaker.{IdMaker}
+use Rattle.cli_convert.specs.declared.made.IdMaker.{IdMaker}
 use Rattle.fallowtime_words.specs.declared.table.Argument.{Argument}
 use Rattle.fallowtime_words.specs.declared.table.Argument.TheVariants.{Collection, Selection, Update, Options}
 

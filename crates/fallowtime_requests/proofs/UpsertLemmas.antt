@@ -17,8 +17,8 @@ use Rattle.store_update.specs.Update.{Tells, updated}
 use Rattle.store_update.specs.declared.operation.Step.{Step}
 use Rattle.store_update.specs.declared.error.UpdateError.{UpdateError}
 use Rattle.store_update.specs.declared.error.UpdateError.TheVariants.{Id, Memory}
-use Rattle.fallowtime_texts.proofs.IdLemmas.{has_id}
-use Rattle.fallowtime_texts.specs.declared.made.IdMaker.{IdMaker}
+use Rattle.cli_convert.proofs.IdLemmas.{has_id}
+use Rattle.cli_convert.specs.declared.made.IdMaker.{IdMaker}
 use Rattle.fallowtime_requests.specs.Inputs.{Given, texts, tree, word}
 use Rattle.fallowtime_requests.specs.Upserts.{HasOtherId, IsByQuery, IsFixed, IsOtherwise, Makes, StopsByWords, StopsFixed, Takes, Upserting, UpsertsByWords, base, fronted, made_by, query_in, upserted_query}
 use Rattle.fallowtime_requests.specs.Reading.{KeepsMaker}
@@ -30,9 +30,9 @@ use Rattle.fallowtime_requests.specs.declared.request.Work.{Work}
 use Rattle.fallowtime_requests.specs.declared.stop.Stop.{Stop}
 use Rattle.fallowtime_requests.specs.declared.stop.Stop.TheVariants as stopped
 use Rattle.fallowtime_words.specs.declared.words.Words.{Words as Wording}
-use Rattle.store_update_read.specs.Outcome.{plans_of}
-use Rattle.store_update_read.specs.Seed.{Fixed, fixed_by}
-use Rattle.store_update_read.specs.declared.seed.Seed.{Seed}
+use Rattle.store_question_read.specs.UpdateOutcome.{plans_of}
+use Rattle.store_question_read.specs.Seed.{Fixed, fixed_by}
+use Rattle.store_question_read.specs.declared.seed.Seed.{Seed}
 
 flipped : (b : Bool) (P : Type 0) → IsTrue b ↔ P → IsTrue (not b) ↔ (P → ⊥)
 flipped true P h = (λ e. absurd cc, λ never. absurd (never (h.0 refl)))

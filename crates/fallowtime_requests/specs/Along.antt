@@ -12,10 +12,10 @@ use Rattle.fallowtime_requests.specs.declared.stop.Stop.TheVariants.{Words, Memo
 use Rattle.fallowtime_requests.specs.declared.unread.Unread.TheVariants as unread
 use Rattle.store_update.specs.Plan.{Change, Path, Plan, changes, sets, unsets}
 use Rattle.store_update.specs.declared.operation.Step.{Step}
-use Rattle.store_update_read.specs.Outcome.{Fails, plans_of}
-use Rattle.store_update_read.specs.Read.{path}
-use Rattle.store_update_read.specs.declared.error.ReadError.{ReadError}
-use Rattle.store_update_read.specs.declared.error.ReadError.TheVariants as reading
+use Rattle.store_question_read.specs.UpdateOutcome.{Fails, plans_of}
+use Rattle.store_question_read.specs.Read.{path}
+use Rattle.store_question_read.specs.declared.update_error.ReadError.{ReadError}
+use Rattle.store_question_read.specs.declared.update_error.ReadError.TheVariants as reading
 
 -- ---- a path
 

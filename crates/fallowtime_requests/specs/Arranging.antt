@@ -6,14 +6,14 @@ use Rattle.std.specs.Str.{bytes_eq}
 use Rattle.bson_base.specs.Value.{Members as Document}
 use Rattle.json.specs.Json.{Json, Items, no_items, item, Members, no_members, member}
 use Rattle.json.specs.Json as json
-use Rattle.fallowtime_texts.specs.declared.made.IdMaker.{IdMaker}
+use Rattle.cli_convert.specs.declared.made.IdMaker.{IdMaker}
 use Rattle.fallowtime_words.specs.Commands.{allowed}
 use Rattle.fallowtime_words.specs.declared.command.Command.{Command}
 use Rattle.fallowtime_words.specs.declared.command.Command.TheVariants as command
-use Rattle.store_sorted.specs.Bodies.{keys_of}
-use Rattle.store_sorted.specs.Order.{Key}
-use Rattle.store_sorted.specs.Texts.{ReadsKeys}
-use Rattle.store_sorted.specs.declared.arrangement.Arrangement.{Arrangement}
+use Rattle.store_pipeline.specs.Bodies.{keys_of}
+use Rattle.store_pipeline.specs.Order.{Key}
+use Rattle.store_pipeline.specs.Texts.{ReadsKeys}
+use Rattle.store_pipeline.specs.declared.sorted.arrangement.Arrangement.{Arrangement}
 use Rattle.fallowtime_words.specs.declared.words.Words.{Words as Wording}
 use Rattle.fallowtime_requests.specs.Fields.{CanName, IsOfTexts, Marked, TextsNameNone, left_by, left_where, marked_under, paths_given}
 use Rattle.fallowtime_requests.specs.Along.{AlongUnless, StopsUnless, literal_in}

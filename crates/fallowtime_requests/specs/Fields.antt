@@ -4,12 +4,12 @@ use Rattle.std.specs.Str.{bytes_eq}
 use Rattle.json.specs.Json.{Json, Members, no_members, member}
 use Rattle.json.specs.Json as json
 use Rattle.bson_base.specs.Value.{Members as Document}
-use Rattle.store_fields.specs.Fields.{fields_alone, kept_fields, other_fields}
-use Rattle.store_fields.specs.Texts.{AreNames, CanMix, paths_in}
-use Rattle.store_fields.specs.Views.{left_of, paths_of}
-use Rattle.store_fields.specs.declared.fields.Fields.{Fields}
+use Rattle.store_pipeline.specs.Fields.{fields_alone, kept_fields, other_fields}
+use Rattle.store_pipeline.specs.FieldTexts.{AreNames, CanMix, paths_in}
+use Rattle.store_pipeline.specs.Views.{left_of, paths_of}
+use Rattle.store_pipeline.specs.declared.sorted.fields.Fields.{Fields}
 use Rattle.store_model.specs.Filter.{Path}
-use Rattle.store_sorted.specs.Texts.{path_in}
+use Rattle.store_pipeline.specs.Texts.{path_in}
 use Rattle.fallowtime_requests.specs.declared.fields.Named.{Named}
 
 -- what is left of a document by these fields, or all of it

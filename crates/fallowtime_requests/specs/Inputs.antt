@@ -9,13 +9,13 @@ use Rattle.json.specs.Strict.{HasUniqueKeys}
 use Rattle.json.specs.Value.{value_view}
 use Rattle.bson_base.specs.Value.{Value, Members}
 use Rattle.bson_json_read.specs.Reading.{read, read_top}
-use Rattle.fallowtime_texts.specs.Ids.{id_of}
-use Rattle.fallowtime_texts.specs.Made.{date_of}
-use Rattle.fallowtime_texts.specs.declared.made.IdMaker.{IdMaker}
+use Rattle.cli_convert.specs.Ids.{id_of}
+use Rattle.cli_convert.specs.Made.{date_of}
+use Rattle.cli_convert.specs.declared.made.IdMaker.{IdMaker}
 use Rattle.store_question.specs.Asked.{Asked}
 use Rattle.store_question_read.specs.Query.{keys, query}
 use Rattle.store_update.specs.Plan.{Plan}
-use Rattle.store_update_read.specs.Read.{update}
+use Rattle.store_question_read.specs.Read.{update}
 use Rattle.fallowtime_requests.specs.declared.input.Input.{Input}
 use Rattle.fallowtime_requests.specs.declared.input.Input.TheVariants as input
 

@@ -4,8 +4,8 @@ use Rattle.std.specs.Str.{bytes_eq}
 use Rattle.json.specs.Json.{Json, Members, no_members, member}
 use Rattle.json.specs.Json as json
 use Rattle.fallowtime_words.specs.Options.{IsNumber}
-use Rattle.store_sorted.specs.Order.{Key}
-use Rattle.store_sorted.specs.Texts.{key_by}
+use Rattle.store_pipeline.specs.Order.{Key}
+use Rattle.store_pipeline.specs.Texts.{key_by}
 
 -- whether the greatest comes first: 1 says that the least does, -1 that the greatest does
 abbrev pub turn_in : Json → Option Bool

@@ -3,7 +3,7 @@
 use Rattle.std.specs.Prelude.{ℕ, List, [], ◌∷◌, length, Bool, false, not, ◌&&◌, ◌||◌, ◌==◌, Option}
 use Rattle.std.specs.List.{list_all, list_any}
 use Rattle.store_model.specs.Filter.{Path}
-use Rattle.store_sorted.specs.Order.{Key}
+use Rattle.store_pipeline.specs.Order.{Key}
 use Rattle.fallowtime_requests.specs.Fields.{paths_given}
 
 -- a space, a double quote, a colon or a brace

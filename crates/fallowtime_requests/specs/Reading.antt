@@ -10,9 +10,9 @@ use Rattle.bson_json_read.specs.Outcome.{Fails}
 use Rattle.bson_json_read.specs.Reading.{read, read_top, ReadsText, ReadsValueText}
 use Rattle.bson_json_read.specs.declared.error.Error.{Error}
 use Rattle.bson_json_read.specs.declared.error.Error.TheVariants as reading
-use Rattle.fallowtime_texts.specs.Ids.{id_of}
-use Rattle.fallowtime_texts.specs.Made.{date_of}
-use Rattle.fallowtime_texts.specs.declared.made.IdMaker.{IdMaker}
+use Rattle.cli_convert.specs.Ids.{id_of}
+use Rattle.cli_convert.specs.Made.{date_of}
+use Rattle.cli_convert.specs.declared.made.IdMaker.{IdMaker}
 use Rattle.fallowtime_words.specs.Commands.{arguments}
 use Rattle.fallowtime_words.specs.declared.command.Command.{Command}
 use Rattle.fallowtime_words.specs.declared.command.Command.TheVariants as command
@@ -27,10 +27,10 @@ use Rattle.store_question_read.specs.Query.{query}
 use Rattle.store_question_read.specs.declared.error.QueryError.{QueryError}
 use Rattle.store_question_read.specs.declared.error.QueryError.TheVariants as querying
 use Rattle.store_update.specs.Plan.{Plan}
-use Rattle.store_update_read.specs.Outcome as update_outcome
-use Rattle.store_update_read.specs.Read.{update}
-use Rattle.store_update_read.specs.declared.error.ReadError.{ReadError}
-use Rattle.store_update_read.specs.declared.error.ReadError.TheVariants as updating
+use Rattle.store_question_read.specs.UpdateOutcome as update_outcome
+use Rattle.store_question_read.specs.Read.{update}
+use Rattle.store_question_read.specs.declared.update_error.ReadError.{ReadError}
+use Rattle.store_question_read.specs.declared.update_error.ReadError.TheVariants as updating
 use Rattle.fallowtime_requests.specs.Inputs.{Given, word, tree, HasQuery, IsAsked, IsDocument, IsId, IsPath, IsText, IsUpdate, IsValue, many_of}
 use Rattle.fallowtime_requests.specs.Requests.{Asks, IsFirstUnfit}
 use Rattle.fallowtime_requests.specs.Staging.{HasPipeline, IsNamed, IsStage, stage_named}

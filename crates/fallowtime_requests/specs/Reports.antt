@@ -4,10 +4,10 @@ use Rattle.bson_json_read.specs.declared.error.Error.{Error}
 use Rattle.bson_json_read.specs.declared.error.Error.TheVariants as reading
 use Rattle.store_question_read.specs.declared.error.QueryError.{QueryError}
 use Rattle.store_question_read.specs.declared.error.QueryError.TheVariants as querying
-use Rattle.store_update_read.specs.declared.error.ReadError.{ReadError}
-use Rattle.store_update_read.specs.declared.error.ReadError.TheVariants as updating
-use Rattle.store_update_read.specs.declared.error.Reason.{Reason}
-use Rattle.store_update_read.specs.declared.error.Reason.TheVariants as reasons
+use Rattle.store_question_read.specs.declared.update_error.ReadError.{ReadError}
+use Rattle.store_question_read.specs.declared.update_error.ReadError.TheVariants as updating
+use Rattle.store_question_read.specs.declared.update_error.Reason.{Reason}
+use Rattle.store_question_read.specs.declared.update_error.Reason.TheVariants as reasons
 use Rattle.fallowtime_requests.specs.declared.unread.Unread.{Unread}
 use Rattle.fallowtime_requests.specs.declared.unread.Unread.TheVariants.{Command, Arguments, Collection, Document, DocumentAt, Id, Key, Value, Query, Update, Equalities, Options, Stages, Fields, Path, Stream}
 

@@ -9,19 +9,19 @@ use Rattle.bson_bytes.specs.Writing.{CanBeWritten}
 use Rattle.bson_json_read.specs.Reading.{read, read_top}
 use Rattle.bson_json_read.specs.declared.error.Error.{Error}
 use Rattle.bson_model.specs.View.{content, view}
-use Rattle.fallowtime_texts.specs.Made.{identified, maker_after}
-use Rattle.fallowtime_texts.specs.declared.made.IdMaker.{IdMaker}
+use Rattle.cli_convert.specs.Made.{identified, maker_after}
+use Rattle.cli_convert.specs.declared.made.IdMaker.{IdMaker}
 use Rattle.fallowtime_words.specs.declared.command.Command.{Command}
 use Rattle.fallowtime_words.specs.declared.command.Command.TheVariants as command
-use Rattle.store_filter.specs.Filters.{path_of}
+use Rattle.store_question.specs.Filters.{path_of}
 use Rattle.store_model.specs.State.{id_key}
 use Rattle.store_pipeline.specs.declared.stage.Stage.{Stage}
 use Rattle.store_question.specs.Asked.{Asked, all_of, no_asked}
 use Rattle.store_question.specs.declared.question.Question.{Question}
 use Rattle.store_question_read.specs.Outcome.{Asks as StandsFor}
-use Rattle.store_sorted.specs.Bodies.{keys_of}
+use Rattle.store_pipeline.specs.Bodies.{keys_of}
 use Rattle.store_update.specs.Plan.{Plan}
-use Rattle.store_update_read.specs.Outcome.{plans_of}
+use Rattle.store_question_read.specs.UpdateOutcome.{plans_of}
 use Rattle.fallowtime_requests.specs.Inputs.{Given, word, tree, IsAsked, IsDocument, IsId, IsPath, IsText, IsUpdate, IsValue, many_of}
 use Rattle.fallowtime_requests.specs.Staging.{HasPipeline}
 use Rattle.fallowtime_requests.specs.declared.reading.Layout.{Layout}

@@ -8,8 +8,8 @@ use Rattle.json.specs.Json.{Json, Items, no_items, item, Members, no_members, me
 use Rattle.json.specs.Json as json
 use Rattle.bson_base.specs.Value.{Value, scalar, null, boolean, int32, int64, double, string}
 use Rattle.bson_json_read.specs.Reading.{read}
-use Rattle.store_fields.specs.declared.fields.Fields.{Fields}
-use Rattle.store_filter.specs.Filters.{path_of}
+use Rattle.store_pipeline.specs.declared.sorted.fields.Fields.{Fields}
+use Rattle.store_question.specs.Filters.{path_of}
 use Rattle.store_model.specs.Filter.{Path}
 use Rattle.store_model.specs.State.{id_key}
 use Rattle.store_pipeline.specs.declared.stage.Accumulated.{Accumulated}
@@ -25,8 +25,8 @@ use Rattle.store_question.specs.Asked.{Asked, all_of, no_asked}
 use Rattle.store_question.specs.declared.question.Question.{Question}
 use Rattle.store_question_read.specs.Outcome.{Asks as StandsFor}
 use Rattle.store_question_read.specs.Query.{begins_with_dollar, keys, query}
-use Rattle.store_sorted.specs.Bodies.{keys_of}
-use Rattle.store_sorted.specs.declared.keys.SortKey.{SortKey}
+use Rattle.store_pipeline.specs.Bodies.{keys_of}
+use Rattle.store_pipeline.specs.declared.sorted.keys.SortKey.{SortKey}
 use Rattle.fallowtime_requests.specs.Fields.{FieldsAre}
 use Rattle.fallowtime_requests.specs.Inputs.{Given, HasQuery, boolean_of}
 use Rattle.fallowtime_requests.specs.Orders.{IsCount, keys_under}

@@ -5,7 +5,7 @@ use Rattle.json.specs.Json.{Json, Items}
 use Rattle.bson_base.specs.Value.{Members, Value, binary, scalar}
 use Rattle.bson_base.specs.declared.spec.BinarySubtype.TheVariants.{Generic}
 use Rattle.bson_json_read.specs.declared.error.Error.{Error}
-use Rattle.fallowtime_texts.specs.declared.made.IdMaker.{IdMaker}
+use Rattle.cli_convert.specs.declared.made.IdMaker.{IdMaker}
 use Rattle.fallowtime_requests.specs.Requests.{AreWritten, IsFirstUnfit, IsUnfit, IsWritten}
 use Rattle.fallowtime_requests.specs.declared.stop.Stop.{Stop}
 use Rattle.fallowtime_requests.specs.declared.stop.Stop.TheVariants.{Words, Memory}

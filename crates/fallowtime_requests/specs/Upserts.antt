@@ -8,8 +8,8 @@ use Rattle.json.specs.Strict.{HasUniqueKeys}
 use Rattle.bson_base.specs.Value.{Value, Members, has_key, look_up, member, no_members}
 use Rattle.bson_meaning.specs.Meaning.{Same}
 use Rattle.bson_model.specs.View.{content, view}
-use Rattle.fallowtime_texts.specs.Made.{identified, maker_after}
-use Rattle.fallowtime_texts.specs.declared.made.IdMaker.{IdMaker}
+use Rattle.cli_convert.specs.Made.{identified, maker_after}
+use Rattle.cli_convert.specs.declared.made.IdMaker.{IdMaker}
 use Rattle.fallowtime_words.specs.declared.words.Words.{Words as Wording}
 use Rattle.store_model.specs.State.{id_key}
 use Rattle.store_update.specs.Number.{onward}
@@ -17,11 +17,11 @@ use Rattle.store_update.specs.Plan.{Plan}
 use Rattle.store_update.specs.Update.{updated}
 use Rattle.store_update.specs.declared.error.UpdateError.{UpdateError}
 use Rattle.store_update.specs.declared.error.UpdateError.TheVariants.{Id}
-use Rattle.store_update_read.specs.Outcome.{Fails, plans_of}
-use Rattle.store_update_read.specs.Seed.{Fixed, fixed, fixed_by}
-use Rattle.store_update_read.specs.declared.error.ReadError.{ReadError}
-use Rattle.store_update_read.specs.declared.error.ReadError.TheVariants as reading
-use Rattle.store_update_read.specs.declared.seed.Seed.{Seed}
+use Rattle.store_question_read.specs.UpdateOutcome.{Fails, plans_of}
+use Rattle.store_question_read.specs.Seed.{Fixed, fixed, fixed_by}
+use Rattle.store_question_read.specs.declared.update_error.ReadError.{ReadError}
+use Rattle.store_question_read.specs.declared.update_error.ReadError.TheVariants as reading
+use Rattle.store_question_read.specs.declared.seed.Seed.{Seed}
 use Rattle.fallowtime_requests.specs.Inputs.{Given, word, tree, HasQuery, boolean_of, texts}
 use Rattle.fallowtime_requests.specs.declared.request.Otherwise.{Otherwise}
 use Rattle.fallowtime_requests.specs.declared.request.Otherwise.TheVariants.{Insert, Refuse}

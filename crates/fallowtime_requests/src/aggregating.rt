@@ -4,7 +4,7 @@ ghost use Rattle.std.specs.Prelude.{◌∷◌, [], MatchResult, map};
 ghost use Rattle.fallowtime_requests.specs.Inputs.{seen};
 ghost use Rattle.fallowtime_requests.specs.Reading.{IsUnread, Reads};
 ghost use Rattle.fallowtime_requests.specs.Requests.{NameAndPipeline};
-ghost use Rattle.fallowtime_texts.specs.declared.made.IdMaker.{IdMaker as Maker};
+ghost use Rattle.cli_convert.specs.declared.made.IdMaker.{IdMaker as Maker};
 ghost use Rattle.fallowtime_words.specs.declared.command.Command.TheVariants as commands;
 ghost use Rattle.fallowtime_words.specs.declared.table.Argument.TheVariants as argument;
 

@@ -5,7 +5,7 @@ ghost use Rattle.std.specs.List.{list_any};
 ghost use Rattle.fallowtime_requests.specs.Along.{Along, AlongUnless, IsPathOf, IsPlanned, StopsAlong, StopsPath, StopsUnless, is_dot};
 ghost use Rattle.fallowtime_requests.specs.declared.request.Request.TheVariants as request;
 ghost use Rattle.store_update.specs.Plan.{change_of, path_of, plan_of};
-ghost use Rattle.store_update_read.specs.Outcome.{plans_of};
+ghost use Rattle.store_question_read.specs.UpdateOutcome.{plans_of};
 
 use crate::reading::Question;
 use crate::request::Request;
@@ -13,8 +13,8 @@ use crate::stop::{Stop, given_up};
 use crate::unread::Unread;
 use bson_model::Bson;
 use std::alloc::{AllocError, Global};
+use store_question_read::{ReadError, path_at};
 use store_update::{Operation, Step};
-use store_update_read::{ReadError, path_at};
 
 /// Whether a byte is a dot.
 fn is_dot(byte: u8) -> bool

@@ -4,7 +4,7 @@
 ghost use Rattle.std.specs.Prelude.{◌≡◌, ◌≢◌, ◌⊎◌, [], ℕ, IfErr, IfOk, MatchOption, Err, MatchResult, None, OnOk, Some, true};
 ghost use Rattle.std.specs.Option.{option_map};
 ghost use Rattle.json.specs.Value.{items_view, members_view, value_view as data_of};
-ghost use Rattle.store_sorted.specs.Bodies.{key_of, keys_of};
+ghost use Rattle.store_pipeline.specs.Bodies.{key_of, keys_of};
 ghost use Rattle.fallowtime_requests.specs.Arranging.{AsksWanted, FindsDocuments, IsOfNumbers, IsOfWords, IsPlan, Plan, PutsOption, PutsOptions, ReadsLine, ReadsThree, ReadsTwo, StopsOptions, StopsSort, StopsWanted, StopsWith, after_in, part_of, plan_of, whole, with_wanted};
 ghost use Rattle.fallowtime_requests.specs.Orders.{IsCount, key_in, keys_behind, keys_under, turn_in};
 ghost use Rattle.fallowtime_requests.specs.Plain.{are_plainly};
@@ -29,12 +29,12 @@ use crate::stop::{Stop, given_up};
 use crate::transferring::rename_of_line;
 use crate::unread::Unread;
 use bson_json_read::Scratch;
-use fallowtime_texts::IdMaker;
+use cli_convert::IdMaker;
 use fallowtime_words::{Command, Words};
 use json::Value;
 use std::alloc::{AllocError, Global};
 use std::mem::replace;
-use store_sorted::{Arrangement, SortKey, sort_key_by, sort_keys_of};
+use store_pipeline::sorted::{Arrangement, SortKey, sort_key_by, sort_keys_of};
 
 /// All documents, as they come, each whole.
 pub(crate) fn all_of(alloc: Global) -> Wanted

@@ -2,11 +2,11 @@
 
 ghost use Rattle.std.specs.Prelude.{◌≡◌, ◌⊎◌, [], IfOk, MatchResult, None, Some, option_map, true};
 ghost use Rattle.json.specs.Value.{members_view, value_view as data_of};
-ghost use Rattle.store_fields.specs.Texts.{AreNames};
-ghost use Rattle.store_fields.specs.Views.{paths_of as paths_seen};
-ghost use Rattle.store_fields.specs.declared.error.PathsError.TheVariants as paths_errors;
-ghost use Rattle.store_filter.specs.Filters.{path_of as path_view};
-ghost use Rattle.store_sorted.specs.Texts.{path_in as keys_in};
+ghost use Rattle.store_pipeline.specs.FieldTexts.{AreNames};
+ghost use Rattle.store_pipeline.specs.Views.{paths_of as paths_seen};
+ghost use Rattle.store_pipeline.specs.declared.sorted.error.PathsError.TheVariants as paths_errors;
+ghost use Rattle.store_question.specs.Filters.{path_of as path_view};
+ghost use Rattle.store_pipeline.specs.Texts.{path_in as keys_in};
 ghost use Rattle.fallowtime_requests.specs.Arranging.{StopsFields, StopsOptions};
 ghost use Rattle.fallowtime_requests.specs.Fields.{AreNone, CanName, FieldsAre, GoTogether, IsOfTexts, NamesNone, TextsNameNone, IsWhere, marked_behind, marked_of, marked_under, none_marked, paths_given, stays_in};
 ghost use Rattle.fallowtime_requests.specs.Plain.{have_plain_paths};
@@ -18,10 +18,10 @@ use crate::stop::Stop;
 use crate::unread::Unread;
 use json::Value;
 use std::alloc::{AllocError, Global};
-use store_fields::{
-    Fields, PathsError, check_mixed, check_paths, fields_alone, kept_fields, other_fields, paths_of,
+use store_pipeline::sorted::{
+    Fields, PathsError, check_mixed, check_paths, fields_alone, kept_fields, other_fields,
+    paths_of, sort_key_by,
 };
-use store_sorted::sort_key_by;
 
 /// Paths of fields that are kept, and of fields that are left out.
 #[derive(Drop)]

@@ -6,7 +6,7 @@ ghost use Rattle.json.specs.Json.{object};
 ghost use Rattle.json.specs.Value.{members_view, value_view as data_of};
 ghost use Rattle.bson_base.specs.Value.{scalar, string};
 ghost use Rattle.bson_model.specs.View.{view};
-ghost use Rattle.store_filter.specs.Filters.{path_of as path_view};
+ghost use Rattle.store_question.specs.Filters.{path_of as path_view};
 ghost use Rattle.store_pipeline.specs.declared.stage.Accumulated.{Accumulated as Field};
 ghost use Rattle.store_pipeline.specs.declared.stage.Accumulator.{Accumulator as Operator};
 ghost use Rattle.store_pipeline.specs.declared.stage.Grouping.{Grouping as Groups};

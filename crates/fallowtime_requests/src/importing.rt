@@ -16,7 +16,7 @@ use crate::stop::Stop;
 use crate::stream::stream_in;
 use crate::unread::Unread;
 use bson_json_read::Scratch;
-use fallowtime_texts::IdMaker;
+use cli_convert::IdMaker;
 use fallowtime_words::Command;
 use json::Value;
 use std::alloc::Global;

@@ -4,10 +4,10 @@ ghost use Rattle.std.specs.Prelude.{◌∷◌, [], MatchResult, map};
 ghost use Rattle.fallowtime_requests.specs.Inputs.{seen};
 ghost use Rattle.fallowtime_requests.specs.Reading.{IsUnread, Reads};
 ghost use Rattle.fallowtime_requests.specs.Requests.{NameAndPath};
-ghost use Rattle.fallowtime_texts.specs.declared.made.IdMaker.{IdMaker as Maker};
+ghost use Rattle.cli_convert.specs.declared.made.IdMaker.{IdMaker as Maker};
 ghost use Rattle.fallowtime_words.specs.declared.command.Command.TheVariants as commands;
 ghost use Rattle.fallowtime_words.specs.declared.table.Argument.TheVariants as argument;
-ghost use Rattle.store_filter.specs.Filters.{path_of as path_view};
+ghost use Rattle.store_question.specs.Filters.{path_of as path_view};
 
 use crate::input::Input;
 use crate::parts::{collection_of, path_of};

@@ -13,7 +13,7 @@ use crate::reading::{Question, question_of_items};
 use crate::stop::{Stop, given_up};
 use crate::unread::Unread;
 use bson_json_read::Scratch;
-use fallowtime_texts::IdMaker;
+use cli_convert::IdMaker;
 use fallowtime_words::Command;
 use json::Value;
 use std::alloc::Global;

@@ -6,7 +6,7 @@ ghost use Rattle.json.specs.Value.{items_view, members_view, value_view as data_
 ghost use Rattle.fallowtime_requests.specs.Arranging.{IsPart, ReadsLine, ReadsSaid, StopsOptions, are_bounds, has_bounds, is_bound, with_part};
 ghost use Rattle.fallowtime_requests.specs.Reading.{KeepsMaker};
 ghost use Rattle.fallowtime_requests.specs.declared.request.Part.{Part as Share};
-ghost use Rattle.fallowtime_texts.specs.declared.made.IdMaker.{IdMaker as Maker};
+ghost use Rattle.cli_convert.specs.declared.made.IdMaker.{IdMaker as Maker};
 ghost use Rattle.fallowtime_words.specs.declared.command.Command.TheVariants as commands;
 
 use crate::arranging::{part_of, wanted_of};
@@ -16,7 +16,7 @@ use crate::request::{Part, Request};
 use crate::stop::Stop;
 use crate::unread::Unread;
 use bson_json_read::Scratch;
-use fallowtime_texts::IdMaker;
+use cli_convert::IdMaker;
 use fallowtime_words::Command;
 use json::Value;
 use std::alloc::Global;

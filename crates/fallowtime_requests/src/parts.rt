@@ -2,7 +2,7 @@
 
 ghost use Rattle.std.specs.Prelude.{◌≡◌, ◌⊎◌, ℕ, List, MatchOption, MatchResult};
 ghost use Rattle.bson_model.specs.View.{content, view};
-ghost use Rattle.store_filter.specs.Filters.{path_of as path_view};
+ghost use Rattle.store_question.specs.Filters.{path_of as path_view};
 ghost use Rattle.store_question.specs.Asked.{Asked};
 ghost use Rattle.store_question_read.specs.Outcome.{Asks as StandsFor};
 ghost use Rattle.fallowtime_requests.specs.Inputs.{IsAsked, IsDocument, IsId, IsPath, IsText, IsValue, seen};
@@ -15,7 +15,7 @@ use crate::stop::Stop;
 use crate::unread::Unread;
 use bson_json_read::{Error, Scratch, bson_of_text, document_of_text};
 use bson_model::{Bson, Document};
-use fallowtime_texts::id_of_word;
+use cli_convert::id_of_word;
 use json::Value;
 use std::alloc::Global;
 use store_question::Question;

@@ -2,12 +2,12 @@
 
 ghost use Rattle.std.specs.Prelude.{◌≡◌, ◌&&◌};
 ghost use Rattle.std.specs.List.{list_all, list_any};
-ghost use Rattle.store_fields.specs.Views.{paths_of as paths_seen};
-ghost use Rattle.store_filter.specs.Filters.{path_of as path_view};
-ghost use Rattle.store_sorted.specs.Bodies.{keys_of};
+ghost use Rattle.store_pipeline.specs.Views.{paths_of as paths_seen};
+ghost use Rattle.store_question.specs.Filters.{path_of as path_view};
+ghost use Rattle.store_pipeline.specs.Bodies.{keys_of};
 ghost use Rattle.fallowtime_requests.specs.Plain.{are_plain, are_plainly, begins_signed, is_odd, is_plain, is_plain_key, is_sign};
 
-use store_sorted::SortKey;
+use store_pipeline::sorted::SortKey;
 
 /// Whether a byte is one that no key of a plain path has: a space, a double quote, a colon or a brace.
 fn is_odd(byte: u8) -> bool

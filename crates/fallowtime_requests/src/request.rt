@@ -1,10 +1,9 @@
 //! What is asked of a store.
 
 use bson_model::{Bson, Document};
-use store_fields::Fields;
 use store_pipeline::Stage;
+use store_pipeline::sorted::{Arrangement, Fields};
 use store_question::Question;
-use store_sorted::Arrangement;
 use store_update::{Step, UpdateError};
 
 /// What becomes of each document that a change by query means.

@@ -4,10 +4,10 @@ ghost use Rattle.std.specs.Prelude.{◌∷◌, [], MatchResult, map};
 ghost use Rattle.fallowtime_requests.specs.Inputs.{seen};
 ghost use Rattle.fallowtime_requests.specs.Reading.{IsUnread, Reads};
 ghost use Rattle.fallowtime_requests.specs.Requests.{NameAndSelection, NameQueryAndUpdate};
-ghost use Rattle.fallowtime_texts.specs.declared.made.IdMaker.{IdMaker as Maker};
+ghost use Rattle.cli_convert.specs.declared.made.IdMaker.{IdMaker as Maker};
 ghost use Rattle.fallowtime_words.specs.declared.command.Command.TheVariants as commands;
 ghost use Rattle.fallowtime_words.specs.declared.table.Argument.TheVariants as argument;
-ghost use Rattle.store_update_read.specs.Outcome.{plans_of};
+ghost use Rattle.store_question_read.specs.UpdateOutcome.{plans_of};
 
 use crate::arranging::all_of;
 use crate::input::Input;
@@ -18,7 +18,7 @@ use crate::stop::Stop;
 use crate::unread::Unread;
 use crate::updates::parts_of;
 use bson_json_read::Scratch;
-use fallowtime_texts::IdMaker;
+use cli_convert::IdMaker;
 use std::alloc::Global;
 use store_update::Step;
 

@@ -20,7 +20,7 @@ use bson_bytes::write_document;
 use bson_frame::ErrorKind;
 use bson_json_read::Error;
 use bson_model::{BinarySubtype, Bson, Document};
-use fallowtime_texts::{IdMaker, with_id};
+use cli_convert::{IdMaker, with_id};
 use json::Value;
 use std::alloc::Global;
 use std::mem::replace;

@@ -7,7 +7,7 @@ ghost use Rattle.fallowtime_requests.specs.Arranging.{ReadsLine, ReadsSaid, Says
 ghost use Rattle.fallowtime_requests.specs.Inputs.{seen};
 ghost use Rattle.fallowtime_requests.specs.Reading.{IsUnread, KeepsMaker, Reads};
 ghost use Rattle.fallowtime_requests.specs.Requests.{NameAndNew, with_drops};
-ghost use Rattle.fallowtime_texts.specs.declared.made.IdMaker.{IdMaker as Maker};
+ghost use Rattle.cli_convert.specs.declared.made.IdMaker.{IdMaker as Maker};
 ghost use Rattle.fallowtime_words.specs.declared.command.Command.TheVariants as commands;
 ghost use Rattle.fallowtime_words.specs.declared.table.Argument.TheVariants as argument;
 
@@ -19,7 +19,7 @@ use crate::request::{Request, Transfer};
 use crate::stop::Stop;
 use crate::unread::Unread;
 use bson_json_read::Scratch;
-use fallowtime_texts::IdMaker;
+use cli_convert::IdMaker;
 use fallowtime_words::Command;
 use json::Value;
 use std::alloc::Global;

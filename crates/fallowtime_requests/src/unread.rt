@@ -8,8 +8,7 @@ use bson_json_read::Error;
 use fallowtime_words::Command;
 use itoa::Buffer;
 use std::alloc::{AllocError, Global};
-use store_question_read::QueryError;
-use store_update_read::{ReadError, Reason};
+use store_question_read::{QueryError, ReadError, Reason};
 
 /// What can't be read, and why.
 #[derive(Debug, Drop)]

@@ -5,18 +5,18 @@ ghost use Rattle.fallowtime_requests.specs.Inputs.{IsUpdate, seen};
 ghost use Rattle.fallowtime_requests.specs.Reading.{IsFirst, StopsUpdate};
 ghost use Rattle.fallowtime_requests.specs.Requests.{NameQueryAndUpdate};
 ghost use Rattle.fallowtime_words.specs.declared.table.Argument.TheVariants as argument;
-ghost use Rattle.store_update_read.specs.Outcome.{plans_of};
+ghost use Rattle.store_question_read.specs.UpdateOutcome.{plans_of};
 
 use crate::input::Input;
 use crate::parts::{collection_of, query_in};
 use crate::stop::Stop;
 use crate::unread::Unread;
-use fallowtime_texts::IdMaker;
+use cli_convert::IdMaker;
 use json::Scratch;
 use std::alloc::Global;
 use store_question::Question;
+use store_question_read::{ReadError, read_update, update_of};
 use store_update::Step;
-use store_update_read::{ReadError, read_update, update_of};
 
 /// The steps of an update. The date that one asks for is the time of the maker.
 fn update_in(

@@ -10,7 +10,7 @@ ghost use Rattle.store_update.specs.Answer.{viewed_document};
 ghost use Rattle.store_update.specs.Plan.{plan_of};
 ghost use Rattle.store_update.specs.Update.{Tells, updated};
 ghost use Rattle.store_update.specs.declared.error.UpdateError.TheVariants.{Memory};
-ghost use Rattle.store_update_read.specs.Seed.{Fixed, fixed_by};
+ghost use Rattle.store_question_read.specs.Seed.{Fixed, fixed_by};
 
 use crate::input::{Input, of_word};
 use crate::reading::{Question, own_id};
@@ -20,12 +20,12 @@ use crate::unread::Unread;
 use bson_json_read::Scratch;
 use bson_meaning::same_meaning;
 use bson_model::{Bson, Document};
-use fallowtime_texts::{IdMaker, with_front_id, with_id};
+use cli_convert::{IdMaker, with_front_id, with_id};
 use fallowtime_words::Words;
 use json::{MAX_DEPTH, Reader, Value};
 use std::alloc::{AllocError, Global};
+use store_question_read::{ReadError, Seed, seed_of};
 use store_update::{Step, UpdateError, updated};
-use store_update_read::{ReadError, Seed, seed_of};
 
 const ID_KEY: &str = "_id";
 

@@ -6,3 +6,6 @@ pub mod CountLemmas
 pub mod FindLemmas
 pub mod StageLemmas
 pub mod ModifyLemmas
+pub mod PlanLemmas
+pub mod GivenLemmas
+pub mod WriteLemmas

@@ -7,3 +7,7 @@ pub mod Counting
 pub mod Finding
 pub mod Staging
 pub mod Modifying
+pub mod Indexing
+pub mod Batches
+pub mod Told
+pub mod Plans

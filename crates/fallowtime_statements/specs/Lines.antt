@@ -10,7 +10,7 @@ use Rattle.bson_json.specs.Prints.{IsTextOf}
 use Rattle.bson_meaning.specs.JsonReserved.{has_reserved}
 use Rattle.bson_model.specs.declared.extjson.ser.Mode.{Mode}
 use Rattle.bson_model.specs.declared.extjson.ser.Mode.TheVariants.{Canonical, Relaxed}
-use Rattle.fallowtime_texts.specs.declared.made.IdMaker.{IdMaker}
+use Rattle.cli_convert.specs.declared.made.IdMaker.{IdMaker}
 use Rattle.fallowtime_words.specs.declared.command.Command.{Command}
 use Rattle.fallowtime_words.specs.declared.command.Command.TheVariants as command
 use Rattle.fallowtime_requests.specs.Arranging.{AsksLine}

@@ -20,7 +20,7 @@ use bson_frame::ErrorKind;
 use bson_model::Document;
 use bson_model::extjson::Mode;
 use bson_raw::RawDocument;
-use fallowtime_texts::IdMaker;
+use cli_convert::IdMaker;
 use fallowtime_words::Command;
 use std::alloc::Global;
 use store_question_read::begins_with_dollar;

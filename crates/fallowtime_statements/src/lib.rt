@@ -10,6 +10,7 @@ mod lines;
 mod modifying;
 mod name;
 mod options;
+pub mod plans;
 mod staging;
 mod statement;
 

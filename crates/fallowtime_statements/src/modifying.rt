@@ -22,8 +22,8 @@ use crate::statement::Statement;
 use bson_meaning::has_reserved_below;
 use bson_model::extjson::Mode;
 use bson_model::{Bson, Document};
+use cli_convert::IdMaker;
 use fallowtime_requests::{Otherwise, Request};
-use fallowtime_texts::IdMaker;
 use fallowtime_words::Command;
 use std::alloc::{AllocError, Global};
 

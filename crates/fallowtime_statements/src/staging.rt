@@ -14,7 +14,7 @@ use crate::lines::{copy_of_value, statement_by, value_in};
 use crate::statement::Statement;
 use bson_model::extjson::Mode;
 use bson_model::{Bson, Document};
-use fallowtime_texts::IdMaker;
+use cli_convert::IdMaker;
 use fallowtime_words::Command;
 use std::alloc::{AllocError, Global};
 

@@ -2,3 +2,11 @@ pub mod Commands
 pub mod Options
 pub mod Reading
 pub mod Words
+pub mod Advice
+pub mod Asked
+pub mod Explaining
+pub mod Hints
+pub mod Nearest
+pub mod Overview
+pub mod Topics
+pub mod Usage

@@ -7,7 +7,7 @@ use Rattle.std.proofs.lemmas.Slice.Eq.{bytes_eq-Decides}
 use Rattle.bson_base.specs.Value.{Value, scalar, array, document, scoped_code, Members, no_members, member, look_up, null, value_kind}
 use Rattle.bson_base.specs.declared.spec.ElementType.{ElementType}
 use Rattle.bson_base.specs.declared.spec.ElementType.TheVariants as kinds
-use Rattle.bson_numbers.specs.Wholes.{part_of}
+use Rattle.bson_order.specs.Wholes.{part_of}
 use Rattle.store_model.specs.Filter.{Path, pairs, under_places}
 use Rattle.store_model.specs.Reading.{Documents}
 use Rattle.store_model.specs.State.{AreKept}

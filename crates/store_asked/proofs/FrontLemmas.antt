@@ -2,15 +2,15 @@
 use Rattle.std.proofs.Common.{◌≡◌, List, [], ◌∷◌, Some, sym, subst, arith}
 use Rattle.std.specs.List.{AllByRecursion}
 use Rattle.bson_base.specs.Value.{Members, document}
-use Rattle.store_filter.specs.Views.{ComesBack}
+use Rattle.store_question.specs.Views.{ComesBack}
 use Rattle.store_model.specs.Filter.{Filter, Selects, all_of, no_filters}
 use Rattle.store_model.specs.Reading.{Documents}
 use Rattle.store_model.specs.State.{AreKept, IsKept}
 use Rattle.store_question.specs.Asked.{Answers, Asked}
 use Rattle.store_question.specs.Reads.{Form, Reads}
-use Rattle.store_question_front.specs.Front.{Passes}
-use Rattle.store_index.specs.Fronts.{LiesIn}
-use Rattle.store_index.specs.declared.range.Range.{Range}
+use Rattle.store_asked.specs.Front.{Passes}
+use Rattle.bson_store.specs.Fronts.{LiesIn}
+use Rattle.bson_store.specs.declared.indexed.range.Range.{Range}
 use Rattle.store_asked.specs.Fronts.{Bounds, Fronts}
 
 -- the filter that selects everything

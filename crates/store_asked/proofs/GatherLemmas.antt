@@ -8,13 +8,13 @@ use Rattle.std.specs.List.{AllZip}
 use Rattle.bson_base.specs.Value.{Members}
 use Rattle.store_model.specs.Reading.{Documents}
 use Rattle.store_model.specs.declared.error.StoreError.{StoreError}
-use Rattle.store_sorted.proofs.SortLemmas.{part_in_first, unmoved}
-use Rattle.store_sorted.proofs.PlaceLemmas.{zip_take}
-use Rattle.store_sorted.specs.Bodies.{AreBodies, ArrangedBy, AreLent, IsBody, keys_of}
-use Rattle.store_sorted.specs.Held.{top_bodies, top_limit}
-use Rattle.store_sorted.specs.Order.{Sorts, cut}
-use Rattle.store_sorted.specs.declared.arrangement.Arrangement.{Arrangement}
-use Rattle.store_sorted.specs.declared.keys.SortKey.{SortKey}
+use Rattle.store_pipeline.proofs.SortLemmas.{part_in_first, unmoved}
+use Rattle.store_pipeline.proofs.PlaceLemmas.{zip_take}
+use Rattle.store_pipeline.specs.Bodies.{AreBodies, ArrangedBy, AreLent, IsBody, keys_of}
+use Rattle.store_pipeline.specs.Held.{top_bodies, top_limit}
+use Rattle.store_pipeline.specs.Order.{Sorts, cut}
+use Rattle.store_pipeline.specs.declared.sorted.arrangement.Arrangement.{Arrangement}
+use Rattle.store_pipeline.specs.declared.sorted.keys.SortKey.{SortKey}
 use Rattle.bson_store.specs.Export.{bytes_of_each}
 use Rattle.bson_store.specs.Questions.{IsSettled}
 use Rattle.store_asked.specs.Arranged.{AreArranged, Gathers, Holding, arrangement_of}

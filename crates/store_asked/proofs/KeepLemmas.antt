@@ -5,7 +5,7 @@ use Rattle.std.specs.Prelude.{◌≤◌, ◌↔◌, IsTrue}
 use Rattle.bson_base.specs.Value.{Members, document, levels}
 use Rattle.bson_bytes.specs.Encode.{encode}
 use Rattle.bson_store.specs.Questions.{Spared}
-use Rattle.store_filter.specs.Views.{OfWritten}
+use Rattle.store_question.specs.Views.{OfWritten}
 use Rattle.store_model.specs.Filter.{Filter, Selects}
 use Rattle.store_model.specs.Reading.{Documents}
 use Rattle.store_model.specs.State.{IsKept, Picks}

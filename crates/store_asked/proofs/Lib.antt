@@ -5,3 +5,10 @@ mod FrontLemmas
 mod DraftedLemmas
 pub mod AskLemmas
 pub mod ReadLemmas
+mod PrefilterLemmas
+mod ArmLemmas
+mod FilterLemmas
+mod PathLemmas
+mod AnswerFrontLemmas
+mod SpanLemmas
+mod RangeLemmas

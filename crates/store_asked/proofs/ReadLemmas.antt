@@ -20,15 +20,15 @@ use Rattle.store_table.specs.Rows.{TableRow, is_in, is_row_named}
 use Rattle.store_table.specs.declared.fault.Fault.{Fault}
 use Rattle.store_table.specs.declared.fault.Fault.TheVariants as faults
 use Rattle.store_table.specs.declared.row.Found.{Found}
-use Rattle.store_pages.specs.Documents.{AreDocuments, Doc, of_collection}
-use Rattle.store_pages.specs.Names.{is_before, names_in}
-use Rattle.store_pages.specs.Rows.{HandsOn}
-use Rattle.store_reader.specs.Bridge.{ShowsRows, as_doc}
-use Rattle.store_reader.proofs.CleanLemmas.{clean_zero, zero_clean}
-use Rattle.store_reader.proofs.CallLemmas.{bodies_alike, bodies_parted}
+use Rattle.store_table.specs.Documents.{AreDocuments, Doc, of_collection}
+use Rattle.store_table.specs.PageNames.{is_before, names_in}
+use Rattle.store_table.specs.PageRows.{HandsOn}
+use Rattle.store_table.specs.Bridge.{ShowsRows, as_doc}
+use Rattle.store_table.proofs.CleanLemmas.{clean_zero, zero_clean}
+use Rattle.store_table.proofs.CallLemmas.{bodies_alike, bodies_parted}
 use Rattle.store_documents.specs.Bodies.{IsKeyOf}
-use Rattle.store_filter.specs.Filters.{filter_of}
-use Rattle.store_index.specs.Asking.{VisitsAsked}
+use Rattle.store_question.specs.Filters.{filter_of}
+use Rattle.bson_store.specs.Asking.{VisitsAsked}
 use Rattle.store_model.specs.Reading.{Documents}
 use Rattle.store_model.specs.Refusal.{refusal}
 use Rattle.store_model.specs.Filter.{Filter, Selects}
@@ -49,7 +49,7 @@ use Rattle.bson_store.proofs.SelectLemmas.{Took, picked_of, refused_one, taken}
 use Rattle.bson_store.proofs.ServeLemmas.{answers_stay, denied, memory_other, stays, undecided}
 use Rattle.bson_base.proofs.MemberLemmas.{equal_keys, same_key}
 use Rattle.store_model.proofs.RowLemmas.{list_of-state_of}
-use Rattle.store_index.proofs.AskLemmas.{scanned}
+use Rattle.bson_store.proofs.AskLemmas.{scanned}
 use Rattle.store_asked.specs.Reads.{FindsBody, OfFiles, Reads, Stays}
 use Rattle.store_asked.specs.declared.store.ReadOnlyStore.{ReadOnlyStore}
 use Rattle.store_asked.specs.declared.joining.Joined.{Joined}

@@ -3,9 +3,9 @@ use Rattle.std.specs.Prelude.{◌≡◌, ◌+◌, ℕ, List, Some, Vec}
 use Rattle.std.specs.declared.alloc.Global.{Global}
 use Rattle.bson_base.specs.Value.{Members}
 use Rattle.store_model.specs.Reading.{Documents}
-use Rattle.store_sorted.specs.Bodies.{AreBodies, ArrangedBy, keys_of}
-use Rattle.store_sorted.specs.Held.{Holds, top_keys, top_limit}
-use Rattle.store_sorted.specs.declared.arrangement.Arrangement.{Arrangement}
+use Rattle.store_pipeline.specs.Bodies.{AreBodies, ArrangedBy, keys_of}
+use Rattle.store_pipeline.specs.Held.{Holds, top_keys, top_limit}
+use Rattle.store_pipeline.specs.declared.sorted.arrangement.Arrangement.{Arrangement}
 use Rattle.store_asked.specs.declared.gathering.Gathering.{Gathering}
 use Rattle.store_asked.specs.declared.gathering.Held.{Held}
 use Rattle.store_asked.specs.declared.gathering.Held.TheVariants as held

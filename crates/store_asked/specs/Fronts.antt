@@ -2,12 +2,12 @@
 use Rattle.std.specs.Prelude.{List, Some}
 use Rattle.std.specs.List.{AllByRecursion}
 use Rattle.bson_base.specs.Value.{Members, document}
-use Rattle.store_index.specs.Fronts.{LiesIn}
-use Rattle.store_index.specs.declared.range.Range.{Range}
+use Rattle.bson_store.specs.Fronts.{LiesIn}
+use Rattle.bson_store.specs.declared.indexed.range.Range.{Range}
 use Rattle.store_model.specs.Filter.{Filter}
 use Rattle.store_question.specs.Asked.{Answers, Asked}
 use Rattle.store_question.specs.Reads.{Form, Reads}
-use Rattle.store_question_front.specs.Front.{Passes}
+use Rattle.store_asked.specs.Front.{Passes}
 
 -- each document that comes back from its bytes and answers the question is selected
 abbrev pub Fronts : Form → Filter → Type 0

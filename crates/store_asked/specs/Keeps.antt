@@ -4,8 +4,8 @@ use Rattle.store_model.specs.Reading.{Documents}
 use Rattle.store_question.specs.Asked.{Asked}
 use Rattle.store_question.specs.Keeps.{Keeps}
 use Rattle.store_question.specs.Reads.{Reads, form_of}
-use Rattle.store_sorted.specs.Held.{Holds, top_keys, top_limit}
-use Rattle.store_sorted.specs.declared.first.TopN.{TopN}
+use Rattle.store_pipeline.specs.Held.{Holds, top_keys, top_limit}
+use Rattle.store_pipeline.specs.declared.sorted.first.TopN.{TopN}
 use Rattle.store_asked.specs.declared.answering.Answering.{Answering}
 
 -- the taker behind a question took what the question keeps of the documents

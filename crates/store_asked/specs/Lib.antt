@@ -3,3 +3,5 @@ pub mod Keeps
 pub mod Asking
 pub mod Fronts
 pub mod Reads
+pub mod Front
+pub mod Spans

@@ -10,8 +10,8 @@ use Rattle.sqlite.specs.Effect.{Database}
 use Rattle.sqlite.specs.Files.{HoldsDatabase}
 use Rattle.store_table.specs.Rows.{HasRows, TableRow}
 use Rattle.store_table.specs.declared.row.Found.{Found}
-use Rattle.store_pages.specs.Documents.{AreDocuments}
-use Rattle.store_reader.specs.Bridge.{as_doc}
+use Rattle.store_table.specs.Documents.{AreDocuments}
+use Rattle.store_table.specs.Bridge.{as_doc}
 use Rattle.store_model.specs.declared.error.StoreError.{StoreError}
 use Rattle.bson_store.specs.Calls.{Looks}
 use Rattle.store_asked.specs.declared.store.ReadOnlyStore.{ReadOnlyStore}

@@ -4,8 +4,8 @@ use crate::selecting::TakeRow;
 use bson_raw::RawDocument;
 use bson_store::{StoreError, Take};
 use std::alloc::Global;
-use store_pages::RowRef;
 use store_question::{Question, answers};
+use store_table::pages::RowRef;
 
 /// Hands on the documents that answer a question, and none of the others, to another taker.
 #[derive(Drop)]

@@ -16,8 +16,8 @@ use bson_store::{DraftedEdits, Store, StoreError};
 use sqlite::Alter;
 use sqlite_pages::Pages;
 use std::alloc::Global;
+use store_pipeline::sorted::Arrangement;
 use store_question::Question;
-use store_sorted::Arrangement;
 
 /// The written forms of the documents of the collection `name` that answer a question: in the order of keys, and those
 /// that none tells apart in the collection's order; of these the ones behind the first `skip`, and at most `limit`. With

@@ -12,11 +12,11 @@ use crate::answering::Answering;
 use crate::front::{filter_in_front, ranges_in_front};
 use crate::selecting::TakeRow;
 use crate::store::ReadOnlyStore;
+use bson_store::indexed::Front;
 use bson_store::{Store, StoreError, Take, select_all};
 use sqlite::Alter;
 use sqlite_pages::Pages;
 use std::alloc::Global;
-use store_index::Front;
 use store_question::Question;
 
 /// Hands the documents of the collection `name` that answer a question to a taker, in the collection's order, and gives

@@ -5,8 +5,8 @@ use crate::selecting::TakeRow;
 use bson_raw::RawDocument;
 use bson_store::{StoreError, Take};
 use std::alloc::{AllocError, Global};
-use store_pages::RowRef;
-use store_sorted::TopN;
+use store_pipeline::sorted::TopN;
+use store_table::pages::RowRef;
 
 /// Keeps the first of the documents in the order of keys, and no more of them than are wanted.
 #[derive(Drop)]

@@ -1,16 +1,15 @@
 //! The filter and the ranges by which a store is read for a question.
 
-ghost use Rattle.store_filter.specs.Filters.{filter_of};
+ghost use Rattle.store_question.specs.Filters.{filter_of};
 ghost use Rattle.store_question.specs.Reads.{form_of};
 ghost use Rattle.store_asked.specs.Fronts.{Bounds, Fronts};
 
+use crate::{prefilter, ranges_of};
+use bson_store::indexed::Range;
 use bson_store::{Store, select_all};
 use sqlite::Alter;
 use std::alloc::Global;
-use store_filter::Filter;
-use store_index::Range;
-use store_question::Question;
-use store_question_front::{prefilter, ranges_of};
+use store_question::{Filter, Question};
 
 /// Whether the collection `name` has an index on a path that the question names. If it has none, no index serves the
 /// question, and a filter in front of it would only cost time.

@@ -3,7 +3,7 @@
 ghost use Rattle.std.specs.Prelude.{◌≡◌, ◌+◌, ◌++◌, ◌∷◌, [], ℕ, IfOk, IfSome, OnOk, Some, map};
 ghost use Rattle.bson_store.specs.Export.{bytes_of_each};
 ghost use Rattle.store_model.specs.Reading.{Documents};
-ghost use Rattle.store_sorted.specs.Bodies.{AreBodies, OfBody};
+ghost use Rattle.store_pipeline.specs.Bodies.{AreBodies, OfBody};
 ghost use Rattle.store_asked.specs.Arranged.{AreArranged};
 
 use crate::first::First;
@@ -12,8 +12,8 @@ use crate::selecting::TakeRow;
 use bson_raw::RawDocument;
 use bson_store::{StoreError, Take};
 use std::alloc::{AllocError, Global};
-use store_pages::RowRef;
-use store_sorted::{Arrangement, TopN, into_window, sort, window};
+use store_pipeline::sorted::{Arrangement, TopN, into_window, sort, window};
+use store_table::pages::RowRef;
 
 /// Puts a copy of a body last.
 fn add_body(bodies: &mut Vec<Vec<u8>>, alloc: Global, body: &[u8]) -> Result<(), AllocError>
@@ -33,7 +33,7 @@ pub struct Whole {
 }
 
 impl Take for Whole {
-    ghost use Rattle.store_sorted.specs.Bodies.{AreBodies};
+    ghost use Rattle.store_pipeline.specs.Bodies.{AreBodies};
 
     ghost took = { λ _ t out. AreBodies t.bodies.items out };
 

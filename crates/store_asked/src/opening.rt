@@ -2,16 +2,15 @@
 
 ghost use Rattle.std.specs.Prelude.{IfOk, IfSome, IsTrue};
 ghost use Rattle.sqlite_wal.specs.Files.{seen_image};
-ghost use Rattle.store_pages.specs.Snapshot.{is_clean_of, pages_of, size_of};
-ghost use Rattle.store_reader.specs.Bridge.{ShowsRows};
+ghost use Rattle.store_table.specs.Snapshot.{is_clean_of, pages_of, size_of};
+ghost use Rattle.store_table.specs.Bridge.{ShowsRows};
 
 use crate::store::ReadOnlyStore;
 use sqlite_btree::Scratch;
 use sqlite_disk::{Disk, Files};
 use sqlite_pages::Error;
 use std::alloc::Global;
-use store_pages::Snapshot;
-use store_reader::open_rows;
+use store_table::pages::{Snapshot, open_rows};
 
 /// The store that two files hold, if its table is alone in their database, as a store makes it; none if pages alone
 /// don't tell. No row is looked at.

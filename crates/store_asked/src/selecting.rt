@@ -4,7 +4,7 @@ ghost use Rattle.std.specs.Prelude.{◌≡◌, ◌++◌, ◌∷◌, [], IfErr, O
 ghost use Rattle.bson_base.specs.Value.{Members};
 ghost use Rattle.bson_bytes.specs.Encode.{encode};
 ghost use Rattle.bson_raw.specs.View.{bytes_of as view_bytes};
-ghost use Rattle.store_filter.specs.Filters.{filter_of};
+ghost use Rattle.store_question.specs.Filters.{filter_of};
 ghost use Rattle.store_model.specs.Reading.{Documents};
 ghost use Rattle.store_model.specs.State.{IsKept};
 ghost use Rattle.bson_store.specs.Questions.{Turns};
@@ -14,9 +14,9 @@ use crate::refusing::check_row;
 use bson_raw::RawDocument;
 use bson_store::{Copies, Count, Take, selected};
 use std::alloc::Global;
-use store_filter::Filter;
 use store_model::StoreError;
-use store_pages::{RowRef, VisitRows};
+use store_question::Filter;
+use store_table::pages::{RowRef, VisitRows};
 
 /// A taker of documents whose rows come with them. It tests the row of each document that it hands out: as the document
 /// comes, or at its end, if only some of those that came are handed out. What is only counted has rows that aren't
@@ -89,8 +89,8 @@ pub struct SelectVisitor<'a, T> {
 
 impl<'a, T: TakeRow> VisitRows for SelectVisitor<'a, T> {
     ghost use Rattle.std.specs.Prelude.{◌≡◌, ◌≢◌, ◌⊎◌, None, map};
-    ghost use Rattle.store_pages.specs.Documents.{Doc};
-    ghost use Rattle.store_filter.specs.Filters.{filter_of};
+    ghost use Rattle.store_table.specs.Documents.{Doc};
+    ghost use Rattle.store_question.specs.Filters.{filter_of};
     ghost use Rattle.bson_store.specs.Questions.{GivesPicked, IsSettled};
 
     ghost took = { λ first v docs. (v.filter.now ≡ first.filter.now)

@@ -2,7 +2,7 @@
 
 ghost use Rattle.std.specs.Prelude.{◌≡◌, [], MatchResult};
 ghost use Rattle.bson_model.specs.View.{view};
-ghost use Rattle.store_filter.specs.Filters.{filter_of};
+ghost use Rattle.store_question.specs.Filters.{filter_of};
 ghost use Rattle.store_documents.specs.Names.{name_bytes};
 ghost use Rattle.store_model.specs.State.{IsName, collections, count, export, find, get_raw, on};
 ghost use Rattle.store_model.specs.Refusal.{refusal};
@@ -23,10 +23,9 @@ use sqlite_btree::Scratch;
 use sqlite_pages::Pages;
 use std::alloc::Global;
 use store_documents::{Name, key_of_id};
-use store_filter::Filter;
 use store_model::{ErrorKind, StoreError};
-use store_pages::{Roots, visit};
-use store_reader::{body_of, collections as names_in, visit_bodies};
+use store_question::Filter;
+use store_table::pages::{Roots, body_of, collections as names_in, visit, visit_bodies};
 
 /// Whether a store may have an id under another key than that of today: one from before the two zeros of a double meant
 /// the same.

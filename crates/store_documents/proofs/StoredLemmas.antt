@@ -17,7 +17,7 @@ use Rattle.bson_meaning.specs.Gate.{IsCounted, Passes}
 use Rattle.bson_meaning.specs.Meaning.{key}
 use Rattle.bson_meaning.specs.declared.key.KeyError.{KeyError}
 use Rattle.bson_meaning.specs.declared.key.KeyError.TheVariants as key_errors
-use Rattle.bson_canonical.specs.Written.{IsWrittenUnder}
+use Rattle.bson_bytes.specs.Written.{IsWrittenUnder}
 use Rattle.store_model.specs.Reading.{IsRead, readable, ReadsBytes}
 use Rattle.store_model.specs.State.{id_key, IsKept}
 use Rattle.store_model.specs.Table.{only_id, own_id}

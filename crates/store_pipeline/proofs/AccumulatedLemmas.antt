@@ -14,8 +14,8 @@ use Rattle.bson_base.specs.Value.{Scalar, Value, scalar, null, double, int32, in
 use Rattle.std.specs.Prelude.{IsUtf8}
 use Rattle.bson_model.specs.View.{items_of}
 use Rattle.bson_order.specs.Order.{order}
-use Rattle.store_distinct.proofs.OnceLemmas.{all_more}
-use Rattle.store_sorted.specs.Order.{best, better, turned}
+use Rattle.store_pipeline.proofs.OnceLemmas.{all_more}
+use Rattle.store_pipeline.specs.Order.{best, better, turned}
 use Rattle.store_update.specs.Arrays.{has, with_each, with_one}
 use Rattle.store_update.specs.Number.{computed, divided, fits_32, fits_64, is_number, number_as, onward}
 use Rattle.store_update.specs.declared.error.UpdateError.{UpdateError}

@@ -5,8 +5,8 @@ use Rattle.std.specs.Prelude.{IsUtf8, nat_lt}
 use Rattle.std.specs.declared.alloc.Global.{Global}
 use Rattle.bson_base.specs.Value.{Value, scalar, int32, int64, Members, member, no_members, document}
 use Rattle.store_model.specs.Reading.{Documents}
-use Rattle.store_sorted.proofs.PlaceLemmas.{zip_long}
-use Rattle.store_sorted.specs.Bodies.{AreBodies, IsBody}
+use Rattle.store_pipeline.proofs.PlaceLemmas.{zip_long}
+use Rattle.store_pipeline.specs.Bodies.{AreBodies, IsBody}
 use Rattle.store_pipeline.specs.Faithful.{AreFaithful, IsFaithful}
 use Rattle.store_pipeline.specs.Stages.{count_of, number_value}
 

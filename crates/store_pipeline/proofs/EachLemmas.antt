@@ -3,7 +3,7 @@ use Rattle.std.proofs.Common.{◌≡◌, ◌≢◌, ◌∙◌, ◌==◌, Bool, t
 use Rattle.std.specs.List.{AllByRecursion, AllZip}
 use Rattle.std.proofs.lemmas.Bool.{eqb-true}
 use Rattle.std.proofs.lemmas.List.{map-append, nil_from_length, take_more}
-use Rattle.store_sorted.proofs.PlaceLemmas.{zip_at, zip_long, zip_more}
+use Rattle.store_pipeline.proofs.PlaceLemmas.{zip_at, zip_long, zip_more}
 
 -- ---- parts of a list
 

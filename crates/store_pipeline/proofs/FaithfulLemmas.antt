@@ -9,7 +9,7 @@ use Rattle.bson_base.specs.Value.{Value, Items, no_items, item, Members, documen
 use Rattle.bson_bytes.specs.Encode.{encode}
 use Rattle.bson_meaning.proofs.NormalLemmas.{both_each}
 use Rattle.store_model.specs.Reading.{IsKeepable}
-use Rattle.store_sorted.specs.Bodies.{IsBody}
+use Rattle.store_pipeline.specs.Bodies.{IsBody}
 use Rattle.store_update.specs.Arrays.{values}
 use Rattle.store_pipeline.specs.Faithful.{IsFaithful}
 

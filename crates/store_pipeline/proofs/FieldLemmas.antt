@@ -11,12 +11,12 @@ use Rattle.bson_base.specs.Value.{Members, Value, document, no_members, member, 
 use Rattle.bson_model.specs.View.{content, view}
 use Rattle.bson_model.specs.declared.bson.Bson.{Bson}
 use Rattle.bson_model.specs.declared.document.Document.{Document}
-use Rattle.store_distinct.proofs.OnceLemmas.{all_more}
+use Rattle.store_pipeline.proofs.OnceLemmas.{all_more}
 use Rattle.store_model.specs.Reading.{Documents}
 use Rattle.store_model.specs.State.{id_key}
 use Rattle.store_model.specs.declared.error.ErrorKind.TheVariants.{Memory as Short}
-use Rattle.store_sorted.proofs.PlaceLemmas.{zip_at, zip_long}
-use Rattle.store_sorted.specs.Bodies.{AreBodies, AreLent, IsBody}
+use Rattle.store_pipeline.proofs.PlaceLemmas.{zip_at, zip_long}
+use Rattle.store_pipeline.specs.Bodies.{AreBodies, AreLent, IsBody}
 use Rattle.store_update.proofs.UpdateLemmas.{drop_at, drop_end, drop_none}
 use Rattle.store_update.specs.Answer.{viewed}
 use Rattle.store_update.specs.Number.{onward}

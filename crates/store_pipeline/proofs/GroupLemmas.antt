@@ -15,12 +15,12 @@ use Rattle.bson_model.specs.View.{view}
 use Rattle.bson_model.specs.declared.bson.Bson.{Bson}
 use Rattle.bson_order.proofs.MeaningLemmas.{total_order}
 use Rattle.bson_order.specs.Order.{order}
-use Rattle.store_distinct.proofs.CountLemmas.{all_new, all_set, at_mapped, gap_found, map_insert, map_long, map_set}
-use Rattle.store_distinct.proofs.OnceLemmas.{gap_apart, gap_none, none_met, once_again, once_new}
-use Rattle.store_distinct.specs.Once.{IsEachOnce}
+use Rattle.store_pipeline.proofs.SortedCountLemmas.{all_new, all_set, at_mapped, gap_found, map_insert, map_long, map_set}
+use Rattle.store_pipeline.proofs.OnceLemmas.{gap_apart, gap_none, none_met, once_again, once_new}
+use Rattle.store_pipeline.specs.Once.{IsEachOnce}
 use Rattle.store_model.specs.Reading.{Documents}
-use Rattle.store_sorted.proofs.PlaceLemmas.{zip_at, zip_long, zip_more}
-use Rattle.store_sorted.specs.Bodies.{AreBodies, AreLent, IsBody}
+use Rattle.store_pipeline.proofs.PlaceLemmas.{zip_at, zip_long, zip_more}
+use Rattle.store_pipeline.specs.Bodies.{AreBodies, AreLent, IsBody}
 use Rattle.store_pipeline.specs.Faithful.{IsFaithful}
 use Rattle.store_pipeline.specs.Grouped.{AreGrouped, IsGroup, key_of}
 use Rattle.store_pipeline.specs.Groups.{of_key}

@@ -9,13 +9,13 @@ use Rattle.bson_base.specs.Kinds.{IsCleanScalar, IsRangedScalar}
 use Rattle.bson_base.specs.Value.{Scalar, Value, scalar, null, array, document, scoped_code, Items, no_items, item, Members, look_up}
 use Rattle.bson_model.specs.View.{items_of, view}
 use Rattle.bson_model.specs.declared.bson.Bson.{Bson}
-use Rattle.store_distinct.specs.Counted.{Adds}
-use Rattle.store_distinct.specs.Distinct.{each_of}
-use Rattle.store_filter.specs.Filters.{path_of}
+use Rattle.store_pipeline.specs.Counted.{Adds}
+use Rattle.store_pipeline.specs.Distinct.{each_of}
+use Rattle.store_question.specs.Filters.{path_of}
 use Rattle.store_model.specs.Filter.{Path, pairs, under_places}
 use Rattle.store_question.proofs.AskLemmas.{IsNoDocument}
 use Rattle.store_question.specs.Reads.{HoldsItems}
-use Rattle.store_sorted.specs.Bodies.{IsBody}
+use Rattle.store_pipeline.specs.Bodies.{IsBody}
 use Rattle.store_update.specs.Arrays.{values}
 use Rattle.store_pipeline.proofs.AccumulatedLemmas.{array_faithful, null_faithful, scalar_faithful}
 use Rattle.store_pipeline.proofs.FaithfulLemmas.{items_faithful, of_body, under as found_faithful}

@@ -7,14 +7,14 @@ use Rattle.bson_base.specs.Value.{document, levels}
 use Rattle.bson_frame.specs.Payload.{IsEnvelope}
 use Rattle.bson_raw.specs.View.{bytes_of}
 use Rattle.bson_raw.specs.declared.document.RawDocument.{RawDocument}
-use Rattle.store_filter.specs.Views.{OfWritten}
+use Rattle.store_question.specs.Views.{OfWritten}
 use Rattle.store_model.specs.Reading.{Documents}
 use Rattle.store_question.specs.Asked.{Answers, Asked}
 use Rattle.store_question.specs.Keeps.{Keeps}
 use Rattle.store_question.specs.Reads.{Reads, form_of}
 use Rattle.store_question.specs.declared.question.Question.{Question}
-use Rattle.store_sorted.proofs.BodyLemmas.{body_envelope, viewed}
-use Rattle.store_sorted.specs.Bodies.{AreBodies, OfBody}
+use Rattle.store_pipeline.proofs.BodyLemmas.{body_envelope, viewed}
+use Rattle.store_pipeline.specs.Bodies.{AreBodies, OfBody}
 
 -- whether the document of a body answers
 abbrev pub TellsOf : Question → List ℕ → Bool → Type 0

@@ -2,8 +2,8 @@
 use Rattle.std.proofs.Common.{◌≡◌, inl, inr, ◌+◌, ◌<◌, ◌≤◌, ℕ, List, drop, take, length, get_or, Result, Ok, Err, Vec, refl, sym, subst}
 use Rattle.std.specs.declared.alloc.Global.{Global}
 use Rattle.store_model.specs.Reading.{Documents}
-use Rattle.store_sorted.proofs.PlaceLemmas.{zip_take}
-use Rattle.store_sorted.specs.Bodies.{AreBodies, IsBody}
+use Rattle.store_pipeline.proofs.PlaceLemmas.{zip_take}
+use Rattle.store_pipeline.specs.Bodies.{AreBodies, IsBody}
 use Rattle.store_update.proofs.UpdateLemmas.{drop_at, drop_end, drop_none}
 use Rattle.store_pipeline.specs.Faithful.{AnswersStage, BodiesOf}
 use Rattle.store_pipeline.specs.Stages.{Makes, MakesAll}

@@ -7,7 +7,7 @@ use Rattle.std.specs.Float.Ieee.{add}
 use Rattle.bson_base.specs.Value.{Value, scalar, null, int32}
 use Rattle.bson_model.specs.View.{view}
 use Rattle.bson_model.specs.declared.bson.Bson.{Bson}
-use Rattle.store_sorted.specs.Order.{best, better}
+use Rattle.store_pipeline.specs.Order.{best, better}
 use Rattle.store_update.proofs.UpdateLemmas.{drop_at, drop_end}
 use Rattle.store_update.specs.Answer.{lent}
 use Rattle.store_update.specs.Number.{computed, divided, is_number, onward}

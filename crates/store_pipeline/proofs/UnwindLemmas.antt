@@ -7,7 +7,7 @@ use Rattle.bson_bytes.specs.Spells.{Means}
 use Rattle.bson_model.specs.Accessors.{as_array}
 use Rattle.bson_model.specs.View.{items_of}
 use Rattle.store_model.specs.Reading.{Documents}
-use Rattle.store_sorted.specs.Bodies.{IsBody}
+use Rattle.store_pipeline.specs.Bodies.{IsBody}
 use Rattle.store_update.proofs.UpdateLemmas.{values_of}
 use Rattle.store_update.specs.Plan.{Path, path_of}
 use Rattle.store_update.specs.Update.{Tells, found}

@@ -12,8 +12,8 @@ use Rattle.store_documents.specs.Bodies.{IsUnwritten}
 use Rattle.store_model.specs.Reading.{Documents, IsKeepable, IsUnkeepable}
 use Rattle.store_model.specs.declared.error.ErrorKind.{ErrorKind}
 use Rattle.store_model.specs.declared.error.ErrorKind.TheVariants.{Memory}
-use Rattle.store_sorted.proofs.PlaceLemmas.{zip_at, zip_long, zip_more}
-use Rattle.store_sorted.specs.Bodies.{AreBodies, IsBody}
+use Rattle.store_pipeline.proofs.PlaceLemmas.{zip_at, zip_long, zip_more}
+use Rattle.store_pipeline.specs.Bodies.{AreBodies, IsBody}
 use Rattle.store_pipeline.specs.Faithful.{AnswersMade, AnswersWritten, AreFaithful, BodiesOf, IsFaithful}
 use Rattle.store_pipeline.specs.Stages.{AreMade, Makes, Stops}
 use Rattle.store_pipeline.specs.declared.error.PipelineError.{PipelineError}

@@ -7,7 +7,7 @@ use Rattle.bson_base.specs.Value.{Value, document, Members, EachPart}
 use Rattle.bson_bytes.specs.Encode.{encode}
 use Rattle.store_model.specs.Reading.{Documents, IsKeepable, IsUnkeepable}
 use Rattle.store_model.specs.declared.error.ErrorKind.TheVariants.{Memory}
-use Rattle.store_sorted.specs.Bodies.{AreBodies}
+use Rattle.store_pipeline.specs.Bodies.{AreBodies}
 use Rattle.store_pipeline.specs.Stages.{AreMade, Makes, Stops}
 use Rattle.store_pipeline.specs.declared.error.PipelineError.{PipelineError}
 use Rattle.store_pipeline.specs.declared.error.PipelineError.TheVariants as why

@@ -7,9 +7,9 @@ use Rattle.bson_model.specs.View.{view, content}
 use Rattle.bson_model.specs.declared.bson.Bson.{Bson}
 use Rattle.bson_model.specs.declared.document.Document.{Document}
 use Rattle.bson_order.specs.Order.{order}
-use Rattle.store_distinct.specs.Once.{IsEachOnce}
+use Rattle.store_pipeline.specs.Once.{IsEachOnce}
 use Rattle.store_model.specs.Reading.{Documents}
-use Rattle.store_sorted.specs.Bodies.{AreLent}
+use Rattle.store_pipeline.specs.Bodies.{AreLent}
 use Rattle.store_update.specs.declared.error.UpdateError.{UpdateError}
 use Rattle.store_update.specs.declared.error.UpdateError.TheVariants.{Memory}
 use Rattle.store_pipeline.specs.Faithful.{AreFaithful, IsFaithful}

@@ -7,10 +7,10 @@ use Rattle.std.specs.Ordering.{eq_by_cmp}
 use Rattle.bson_base.specs.Value.{Value, scalar, null, undefined, int32, array, Members, no_members, member, put}
 use Rattle.bson_model.specs.View.{items_of}
 use Rattle.bson_order.specs.Order.{order}
-use Rattle.store_distinct.specs.Once.{IsEachOnce}
+use Rattle.store_pipeline.specs.Once.{IsEachOnce}
 use Rattle.store_model.specs.Reading.{Documents}
 use Rattle.store_model.specs.State.{id_key}
-use Rattle.store_sorted.specs.Order.{best}
+use Rattle.store_pipeline.specs.Order.{best}
 use Rattle.store_update.specs.Arrays.{with_each}
 use Rattle.store_update.specs.Number.{computed, divided, is_number, onward}
 use Rattle.store_update.specs.declared.error.UpdateError.{UpdateError}

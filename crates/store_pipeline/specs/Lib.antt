@@ -5,3 +5,13 @@ pub mod Stages
 pub mod Faithful
 pub mod Taken
 pub mod Grouped
+pub mod Order
+pub mod Bodies
+pub mod Held
+pub mod Texts
+pub mod Fields
+pub mod Views
+pub mod FieldTexts
+pub mod Once
+pub mod Distinct
+pub mod Counted

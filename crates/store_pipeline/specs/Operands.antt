@@ -3,7 +3,7 @@ use Rattle.std.specs.Prelude.{ℕ, List, [], ◌∷◌, Option, Some, None, opti
 use Rattle.std.specs.List.{filter_map}
 use Rattle.bson_base.specs.Value.{Value, scalar, null, boolean, int32, int64, double, string, array, document, Members, look_up}
 use Rattle.bson_model.specs.View.{items_of}
-use Rattle.store_filter.specs.Filters.{path_of}
+use Rattle.store_question.specs.Filters.{path_of}
 use Rattle.store_model.specs.Filter.{Path}
 use Rattle.store_update.specs.Arrays.{values}
 use Rattle.store_pipeline.specs.declared.stage.Operand.{Operand}

@@ -2,14 +2,14 @@
 use Rattle.std.specs.Prelude.{◌≡◌, ◌⊎◌, ◌^◌, ℕ, zero, suc, pos, List, [], ◌∷◌, ◌++◌, length, map, take, drop, nat_lt, if◌then◌else◌, Result, Ok, Err, string_bytes}
 use Rattle.std.specs.List.{AllByRecursion, flat_map}
 use Rattle.bson_base.specs.Value.{Value, scalar, int32, int64, Members, no_members, member}
-use Rattle.store_fields.specs.Views.{left_of}
+use Rattle.store_pipeline.specs.Views.{left_of}
 use Rattle.store_model.specs.Reading.{Documents, IsKeepable, IsUnkeepable}
 use Rattle.store_model.specs.declared.error.ErrorKind.TheVariants.{Memory}
 use Rattle.store_question.specs.Asked.{Asked}
 use Rattle.store_question.specs.Keeps.{Keeps}
 use Rattle.store_question.specs.Reads.{Reads, form_of}
-use Rattle.store_sorted.specs.Bodies.{keys_of}
-use Rattle.store_sorted.specs.Order.{Sorts}
+use Rattle.store_pipeline.specs.Bodies.{keys_of}
+use Rattle.store_pipeline.specs.Order.{Sorts}
 use Rattle.store_update.specs.declared.error.UpdateError.{UpdateError}
 use Rattle.store_pipeline.specs.Groups.{AreGroups}
 use Rattle.store_pipeline.specs.Unwound.{unwound}

@@ -5,7 +5,7 @@ ghost use Rattle.std.specs.List.{filter};
 ghost use Rattle.bson_base.specs.Value.{array, scalar, null};
 ghost use Rattle.bson_model.specs.View.{items_of, view};
 ghost use Rattle.store_pipeline.specs.Groups.{accumulated, average_of, is_null, sum_from, sum_of};
-ghost use Rattle.store_sorted.specs.Order.{best, better};
+ghost use Rattle.store_pipeline.specs.Order.{best, better};
 ghost use Rattle.store_update.specs.Answer.{lent, viewed};
 ghost use Rattle.store_update.specs.Arrays.{with_each as each_with};
 ghost use Rattle.store_update.specs.Number.{is_number};

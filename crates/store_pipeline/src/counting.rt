@@ -4,7 +4,7 @@ ghost use Rattle.std.specs.Prelude.{◌≡◌, ◌<◌, ◌^◌, IfOk, IsUtf8, l
 ghost use Rattle.bson_base.specs.Value.{member, no_members};
 ghost use Rattle.bson_model.specs.View.{content, view};
 ghost use Rattle.store_model.specs.Reading.{Documents};
-ghost use Rattle.store_sorted.specs.Bodies.{AreBodies};
+ghost use Rattle.store_pipeline.specs.Bodies.{AreBodies};
 ghost use Rattle.store_pipeline.specs.Faithful.{AnswersMade, AreFaithful};
 ghost use Rattle.store_pipeline.specs.Stages.{count_of, number_value};
 

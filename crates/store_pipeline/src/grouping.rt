@@ -18,7 +18,7 @@ ghost use Rattle.store_pipeline.specs.Taken.{AreTrees, IsTree, IsTreeIfAny};
 ghost use Rattle.store_pipeline.specs.declared.error.PipelineError.TheVariants.{Calculation, Document as InDocument};
 ghost use Rattle.store_pipeline.specs.declared.stage.Operand.{Operand as Taking};
 ghost use Rattle.store_pipeline.specs.declared.stage.Stage.TheVariants.{Group as OfGroups};
-ghost use Rattle.store_sorted.specs.Bodies.{AreBodies, AreLent, IsBody, OfBody};
+ghost use Rattle.store_pipeline.specs.Bodies.{AreBodies, AreLent, IsBody, OfBody};
 ghost use Rattle.store_update.specs.declared.error.UpdateError.TheVariants.{Memory};
 
 use crate::accumulating::accumulated;

@@ -10,6 +10,7 @@ mod operand;
 mod projecting;
 mod running;
 mod skipping;
+pub mod sorted;
 mod sorting;
 mod stage;
 mod unwinding;

@@ -6,7 +6,7 @@ ghost use Rattle.store_model.specs.Reading.{Documents};
 ghost use Rattle.store_question.specs.Asked.{Answers, Asked};
 ghost use Rattle.store_question.specs.Keeps.{Keeps};
 ghost use Rattle.store_question.specs.Reads.{Reads, form_of};
-ghost use Rattle.store_sorted.specs.Bodies.{AreBodies, OfBody};
+ghost use Rattle.store_pipeline.specs.Bodies.{AreBodies, OfBody};
 ghost use Rattle.store_pipeline.specs.Faithful.{BodiesOf};
 
 use bson_raw::RawDocument;

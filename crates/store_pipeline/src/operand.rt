@@ -4,13 +4,13 @@ ghost use Rattle.std.specs.Prelude.{◌≡◌, IfOk, OnOk, option_map};
 ghost use Rattle.bson_base.specs.Value.{Value, array, document, double, scalar};
 ghost use Rattle.bson_model.specs.View.{items_of, view};
 ghost use Rattle.bson_raw.specs.View.{bytes_of, parts_of};
-ghost use Rattle.store_distinct.specs.Counted.{Adds};
-ghost use Rattle.store_distinct.specs.Distinct.{each_of};
-ghost use Rattle.store_filter.specs.Filters.{path_of};
+ghost use Rattle.store_pipeline.specs.Counted.{Adds};
+ghost use Rattle.store_pipeline.specs.Distinct.{each_of};
+ghost use Rattle.store_question.specs.Filters.{path_of};
 ghost use Rattle.store_pipeline.specs.Operands.{inside as is_inside, key_in as key_of_members, led_to as leads, taken as is_taken, under as under_key};
 ghost use Rattle.store_pipeline.specs.Taken.{IsTree, IsTreeIfAny, through as goes_through};
 ghost use Rattle.store_question.specs.Reads.{FindsMember, Found, OfElement, OfMembers};
-ghost use Rattle.store_sorted.specs.Bodies.{OfBody};
+ghost use Rattle.store_pipeline.specs.Bodies.{OfBody};
 
 use crate::stage::Operand;
 use bson_base::DoubleBits;

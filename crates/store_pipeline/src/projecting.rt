@@ -1,13 +1,13 @@
 //! `$project`: what is left of documents.
 
 ghost use Rattle.std.specs.Prelude.{IfOk, map};
-ghost use Rattle.store_fields.specs.Views.{left_of};
+ghost use Rattle.store_pipeline.specs.Views.{left_of};
 ghost use Rattle.store_model.specs.Reading.{Documents};
-ghost use Rattle.store_sorted.specs.Bodies.{AreBodies, IsBody, OfBody};
+ghost use Rattle.store_pipeline.specs.Bodies.{AreBodies, IsBody, OfBody};
 
+use crate::sorted::{Fields, project};
 use bson_raw::RawDocument;
 use std::alloc::{AllocError, Global};
-use store_fields::{Fields, project};
 
 /// The body of what is left of the document that has this body. The error is a refused growth.
 pub fn left_of_body(alloc: Global, body: &[u8], fields: &Fields) -> Result<Vec<u8>, AllocError>

@@ -2,7 +2,7 @@
 
 ghost use Rattle.std.specs.Prelude.{Err, MatchResult, Ok};
 ghost use Rattle.store_model.specs.Reading.{Documents};
-ghost use Rattle.store_sorted.specs.Bodies.{AreBodies};
+ghost use Rattle.store_pipeline.specs.Bodies.{AreBodies};
 ghost use Rattle.store_pipeline.specs.Faithful.{AnswersStage, BodiesOf};
 ghost use Rattle.store_pipeline.specs.Stages.{MakesAll};
 

@@ -2,7 +2,7 @@
 
 ghost use Rattle.std.specs.Prelude.{◌≡◌, drop, take};
 
-use store_sorted::into_window;
+use crate::sorted::into_window;
 
 /// The bodies behind the first ones, of this number.
 pub(crate) fn skip(bodies: Vec<Vec<u8>>, number: usize) -> Vec<Vec<u8>>

@@ -2,12 +2,12 @@
 
 ghost use Rattle.std.specs.Prelude.{IfOk};
 ghost use Rattle.store_model.specs.Reading.{Documents};
-ghost use Rattle.store_sorted.specs.Bodies.{AreBodies, AreLent, keys_of};
-ghost use Rattle.store_sorted.specs.Order.{Sorts};
+ghost use Rattle.store_pipeline.specs.Bodies.{AreBodies, AreLent, keys_of};
+ghost use Rattle.store_pipeline.specs.Order.{Sorts};
 ghost use Rattle.store_pipeline.specs.Faithful.{BodiesOf};
 
+use crate::sorted::{SortKey, sort};
 use std::alloc::{AllocError, Global};
-use store_sorted::{SortKey, sort};
 
 /// Copies of bodies.
 fn copies_of(alloc: Global, bodies: &[&[u8]]) -> Result<Vec<Vec<u8>>, AllocError>

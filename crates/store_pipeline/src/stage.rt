@@ -1,9 +1,8 @@
 //! Stages of a pipeline, as they are read.
 
+use crate::sorted::{Fields, SortKey};
 use bson_base::DoubleBits;
-use store_fields::Fields;
 use store_question::Question;
-use store_sorted::SortKey;
 
 /// What is taken of a document: what a path leads to, or a value that is the same of each.
 #[derive(Debug, Drop)]

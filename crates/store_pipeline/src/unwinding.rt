@@ -5,7 +5,7 @@ ghost use Rattle.std.specs.List.{flat_map};
 ghost use Rattle.bson_base.specs.Value.{array, document as tree};
 ghost use Rattle.bson_model.specs.View.{content, items_of, view};
 ghost use Rattle.store_model.specs.Reading.{Documents};
-ghost use Rattle.store_sorted.specs.Bodies.{AreBodies, OfBody};
+ghost use Rattle.store_pipeline.specs.Bodies.{AreBodies, OfBody};
 ghost use Rattle.store_update.specs.Answer.{lent};
 ghost use Rattle.store_update.specs.Plan.{change_of, path_of};
 ghost use Rattle.store_update.specs.Update.{altered as altered_members, found as found_at, made as made_by};
@@ -70,7 +70,9 @@ fn with_value(
     ensures { IfOk result (λ e. content e ≡ with_at (path_of path.now) (content document.now) (Some (view value.now))) }
 {
     let operation = Operation::Set(value.try_clone(alloc)?);
-    changed(alloc, document, path, &operation)
+    let made = changed(alloc, document, path, &operation);
+    drop(operation);
+    made
 }
 
 /// The document with each of these values in turn at a path.

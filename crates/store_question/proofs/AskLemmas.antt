@@ -10,8 +10,8 @@ use Rattle.bson_base.specs.Value.{Value, scalar, array, document, scoped_code, I
 use Rattle.bson_raw.specs.declared.bson_ref.RawBsonRef.{RawBsonRef}
 use Rattle.bson_raw.specs.declared.bson_ref.RawBsonRef.TheVariants as views
 use Rattle.bson_raw.specs.ReadValue.{as_document}
-use Rattle.store_filter.specs.Filters.{path_of}
-use Rattle.store_filter.specs.Views.{Encodes}
+use Rattle.store_question.specs.Filters.{path_of}
+use Rattle.store_question.specs.Views.{Encodes}
 use Rattle.store_model.specs.Filter.{pairs, under_places, Path}
 use Rattle.store_question.specs.declared.question.Question.{Question}
 use Rattle.store_question.specs.Asked.{Asked, Askeds, no_asked, Answers, AnswersAll, AnswersAny, AnyMember, HasItem, AtEnd, AtMember, AtPlace, Along, IntoDocument, Through, Under}

@@ -5,7 +5,7 @@ use Rattle.bson_base.proofs.MemberLemmas.{equal_keys}
 use Rattle.bson_base.specs.Tags.{tag_byte}
 use Rattle.bson_base.specs.Value.{Value, scalar, array, document, scoped_code, string, symbol, Items, Members, no_members, member, look_up, value_kind}
 use Rattle.bson_bytes.specs.Encode.{cstring_of, encode, frame_of, le32, members_bytes, text_bytes, value_bytes}
-use Rattle.store_filter.proofs.MemberLemmas.{array_bytes_pairs}
+use Rattle.store_question.proofs.MemberLemmas.{array_bytes_pairs}
 use Rattle.store_model.specs.Filter.{under_places, Path}
 use Rattle.store_question.specs.Asked.{text_in, AnyMember, AtEnd, AtMember, AtPlace, Along, HasItem, IntoDocument, Through, Under}
 use Rattle.store_question.specs.Lacking.{StandsIn}

@@ -23,9 +23,9 @@ use Rattle.bson_raw.specs.ReadValue.{as_array}
 use Rattle.bson_raw.specs.View.{bytes_of, array_bytes}
 use Rattle.bson_order.specs.Order.{rank, is_no_number, order}
 use Rattle.bson_order.proofs.TurnLemmas.{kind_spelled}
-use Rattle.store_filter.specs.Views.{Encodes, ComesBack, ComeBack, Finds, HoldsPairs}
-use Rattle.store_filter.proofs.MemberLemmas.{pairs_back, found_back}
-use Rattle.store_filter.proofs.ViewLemmas.{shows, kind_shown, array_held}
+use Rattle.store_question.specs.Views.{Encodes, ComesBack, ComeBack, Finds, HoldsPairs}
+use Rattle.store_question.proofs.MemberLemmas.{pairs_back, found_back}
+use Rattle.store_question.proofs.ViewLemmas.{shows, kind_shown, array_held}
 use Rattle.store_model.specs.Filter.{pairs, under_places}
 use Rattle.store_question.specs.Asked.{holds, lies_apart, lies_to, same_truth, text_in}
 use Rattle.store_question.specs.Reads.{Found, FindsMember, HoldsItems, Shows}

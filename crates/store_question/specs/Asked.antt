@@ -6,7 +6,7 @@ use Rattle.std.specs.declared.cmp.Ordering.{Ordering}
 use Rattle.std.specs.declared.cmp.Ordering.TheVariants.{Less, Greater}
 use Rattle.bson_base.specs.declared.spec.ElementType.{ElementType}
 use Rattle.bson_base.specs.Value.{null, min_key, max_key, string, symbol, Value, scalar, array, document, Members, no_members, member, look_up, value_kind}
-use Rattle.bson_numbers.specs.Wholes.{part_of}
+use Rattle.bson_order.specs.Wholes.{part_of}
 use Rattle.bson_order.specs.Order.{rank, is_no_number, order}
 use Rattle.store_model.specs.Filter.{pairs, under_places, Path}
 use Rattle.store_question.specs.declared.question.Comparison.{Comparison}

@@ -11,8 +11,8 @@ use Rattle.store_question.specs.declared.question.Comparison.{Comparison}
 use Rattle.bson_raw.specs.Convert.{SpellsRawValue}
 use Rattle.bson_raw.specs.Raw.{own_value, RawValue}
 use Rattle.bson_raw.specs.declared.bson_ref.RawBsonRef.{RawBsonRef}
-use Rattle.store_filter.specs.Filters.{path_of}
-use Rattle.store_filter.specs.Views.{Encodes, ComesBack, ComeBack, IsWrittenFor}
+use Rattle.store_question.specs.Filters.{path_of}
+use Rattle.store_question.specs.Views.{Encodes, ComesBack, ComeBack, IsWrittenFor}
 use Rattle.store_question.specs.Asked.{Asked, at, whole, exists, is_of, lies, has_size, leaves, begins, has_item, no, all_of, any_of, Askeds, no_asked, asked}
 use Rattle.store_question.specs.declared.question.Question.{Question, fold-Question}
 use Rattle.store_question.specs.declared.question.Question.TheOpen.{Question-F}

@@ -4,8 +4,8 @@ ghost use Rattle.std.specs.Prelude.{◌≡◌, ◌↔◌, ◌≤◌, IsTrue, map
 ghost use Rattle.bson_base.specs.Value.{Members, Value, array as array_value, document as tree, levels, look_up, Items};
 ghost use Rattle.bson_bytes.specs.Encode.{encode};
 ghost use Rattle.bson_raw.specs.View.{bytes_of, parts_of};
-ghost use Rattle.store_filter.specs.Filters.{path_of};
-ghost use Rattle.store_filter.specs.Views.{ComeBack, ComesBack, Encodes, Finds, FindsElement, HoldsPairs, IsWrittenFor, OfWritten};
+ghost use Rattle.store_question.specs.Filters.{path_of};
+ghost use Rattle.store_question.specs.Views.{ComeBack, ComesBack, Encodes, Finds, FindsElement, HoldsPairs, IsWrittenFor, OfWritten};
 ghost use Rattle.store_model.specs.Filter.{pairs, under_places};
 ghost use Rattle.store_question.specs.Asked.{Asked, Askeds, Answers, AnswersAll, AnswersAny, AnyMember, HasItem, IntoDocument, AtEnd, AtMember, AtPlace, Along, Through, Under};
 ghost use Rattle.store_question.specs.Reads.{Found, FindsMember, OfElement, OfMembers, ReadEach, Reads, Shows, form_of, forms_of};

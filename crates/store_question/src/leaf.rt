@@ -2,7 +2,7 @@
 
 ghost use Rattle.std.specs.Prelude.{◌≡◌, ◌↔◌, ◌≤◌, IsTrue, IsSomeAnd, option_and_then, option_map, unwrap_or};
 ghost use Rattle.bson_base.specs.Value.{Value, scalar, null, value_kind, levels};
-ghost use Rattle.bson_numbers.specs.Wholes.{part_of};
+ghost use Rattle.bson_order.specs.Wholes.{part_of};
 ghost use Rattle.bson_raw.specs.Convert.{SpellsRawValue};
 ghost use Rattle.bson_raw.specs.Raw.{ref_value};
 ghost use Rattle.bson_raw.specs.View.{bytes_of};

@@ -8,7 +8,7 @@ use Rattle.bson_raw.specs.declared.bson_ref.RawBsonRef.{RawBsonRef}
 use Rattle.bson_raw.specs.declared.bson_ref.RawBsonRef.TheVariants as views
 use Rattle.bson_raw.specs.declared.bson_ref.RawRegexRef.{RawRegexRef}
 use Rattle.store_question_read.specs.Kinds.{is_number, kind_of, kind_of_number}
-use Rattle.bson_numbers.specs.Wholes.{whole_of}
+use Rattle.bson_order.specs.Wholes.{whole_of}
 use Rattle.store_question_read.specs.Values.{is_expression, is_not_zero, truth_of}
 
 -- ---- what is no text, no truth value, no expression

@@ -7,3 +7,4 @@ mod LeafLemmas
 mod MadeLemmas
 mod PatternLemmas
 mod QueryLemmas
+pub mod ReadLemmas

@@ -37,6 +37,9 @@ entries_of es = entries (members_view es)
 pub entries_turn : (xs : List Entry) (i : ℕ) (x : Entry) (list : List Question) (q : Question) → x ≡ get_or xs i x → i < length xs → SoFar list (entries_of xs) (entries_of (drop i xs)) → Gives Asks (Ok q) (entry_of x) → SoFar (list ++ q ∷ []) (entries_of xs) (entries_of (drop (i + 1) xs))
 entries_turn xs i x list q = turn Entry entries_of entry_of refl (λ y ys. refl) xs i x list q (entries_of xs)
 
+pub entries_halt : (xs : List Entry) (i : ℕ) (x : Entry) (list : List Question) (error : QueryError) → x ≡ get_or xs i x → i < length xs → SoFar list (entries_of xs) (entries_of (drop i xs)) → Fails error (entry_of x) → Fails error (entries_of xs)
+entries_halt xs i x list error = halt Entry entries_of entry_of refl (λ y ys. refl) xs i x list error (entries_of xs)
+
 pub entries_over : (xs : List Entry) (i : ℕ) (list : Vec Question Global) → length xs ≤ i → SoFar list.items (entries_of xs) (entries_of (drop i xs)) → Gives AskEach (Ok list) (entries_of xs)
 entries_over xs i list = over Entry entries_of entry_of refl (λ y ys. refl) xs i list (entries_of xs)
 
@@ -65,6 +68,9 @@ module _ (p : Path) (k : List ℕ) (l : Listed) where
 
   pub each_turn : (xs : List (Tree Global)) (i : ℕ) (x : Tree Global) (list : List Question) (q : Question) → x ≡ get_or xs i x → i < length xs → SoFar list (each_of xs) (each_of (drop i xs)) → Gives Asks (Ok q) (one_of x) → SoFar (list ++ q ∷ []) (each_of xs) (each_of (drop (i + 1) xs))
   each_turn xs i x list q = turn (Tree Global) each_of one_of refl (λ y ys. refl) xs i x list q (each_of xs)
+
+  pub each_halt : (xs : List (Tree Global)) (i : ℕ) (x : Tree Global) (list : List Question) (error : QueryError) → x ≡ get_or xs i x → i < length xs → SoFar list (each_of xs) (each_of (drop i xs)) → Fails error (one_of x) → Fails error (each_of xs)
+  each_halt xs i x list error = halt (Tree Global) each_of one_of refl (λ y ys. refl) xs i x list error (each_of xs)
 
   pub each_over : (xs : List (Tree Global)) (i : ℕ) (list : Vec Question Global) → length xs ≤ i → SoFar list.items (each_of xs) (each_of (drop i xs)) → Gives AskEach (Ok list) (each_of xs)
   each_over xs i list = over (Tree Global) each_of one_of refl (λ y ys. refl) xs i list (each_of xs)

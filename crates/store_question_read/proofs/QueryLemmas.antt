@@ -52,6 +52,11 @@ not_alone p k [] e n h = names_fails _ e (no_operand k) n
 not_alone p k (m ∷ []) e n h = absurd (h refl)
 not_alone p k (m ∷ o ∷ ms) e n h = names_fails _ e (no_operand k) n
 
+pub other_alone : (p : Path) (k : List ℕ) (ms : List Entry) (x : Entry) (e : QueryError) → Names e (no_operand k) → 1 ≤ length ms → length ms < 2 → bytes_eq (get_or ms 0 x).0.now (codes "$elemMatch") ≡ false → Fails e (match_alone p k (object (members_view ms)))
+other_alone p k [] x e n h l t = absurd (omega (arith, h))
+other_alone p k (m ∷ []) x e n h l t = subst (λ b. Fails e (if b then matching p m.0.now (value_view m.1) else Err (no_operand k))) (sym t) (names_fails _ e (no_operand k) n)
+other_alone p k (m ∷ o ∷ ms) x e n h l t = absurd (omega (arith, l))
+
 -- ---- options beside a pattern
 
 pub lone_refused : (js : Members) (list : Result Askeds Fault) (e : QueryError) → has_lone_options js ≡ true → Names e (no_operand (codes "$options")) → Fails e (together js list)

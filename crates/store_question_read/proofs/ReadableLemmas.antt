@@ -20,7 +20,7 @@ use Rattle.bson_json_read.specs.declared.error.Error.TheVariants.{RepeatedKey}
 use Rattle.bson_model.specs.JsonKeys.{Reserved, of_binary, of_code, of_date, of_decimal, of_double, of_id, of_int, of_long, of_max, of_min, of_pointer, of_regex, of_symbol, of_timestamp, of_undefined, of_uuid, reserved_of}
 use Rattle.bson_model.specs.JsonRead.{code_and_scope}
 use Rattle.bson_model.specs.JsonTexts.{fits_32, long_of}
-use Rattle.double_text.specs.DoubleText.{double_of}
+use Rattle.bson_json_read.specs.DoubleText.{double_of}
 use Rattle.store_question_read.specs.Values.{AnyKey, Readable, ReadableScalar}
 
 abbrev ReadableItems : Items → Type 0

@@ -5,7 +5,7 @@ use Rattle.std.specs.Str.{bytes_eq}
 use Rattle.bson_base.specs.Value.{string, Value, scalar}
 use Rattle.bson_base.specs.declared.spec.ElementType.{ElementType}
 use Rattle.bson_base.specs.declared.spec.ElementType.TheVariants.{Double, String, EmbeddedDocument, Array, Binary, Undefined, ObjectId, Boolean, DateTime, Null, RegularExpression, DbPointer, JavaScriptCode, Symbol, JavaScriptCodeWithScope, Int32, Timestamp, Int64, Decimal128, MaxKey, MinKey}
-use Rattle.bson_numbers.specs.Wholes.{whole_of}
+use Rattle.bson_order.specs.Wholes.{whole_of}
 
 abbrev pub named : List (List ℕ × ElementType) → List ℕ → Option ElementType
 named [] t = None

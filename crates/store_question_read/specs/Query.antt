@@ -12,8 +12,8 @@ use Rattle.bson_base.specs.declared.spec.ElementType.TheVariants as kinds
 use Rattle.bson_json_read.specs.Reading.{read}
 use Rattle.bson_json_read.specs.declared.error.Error.{Error}
 use Rattle.bson_model.specs.JsonKeys.{is_reserved}
-use Rattle.double_text.specs.DoubleText.{double_of}
-use Rattle.bson_numbers.specs.Wholes.{part_of, whole_of}
+use Rattle.bson_json_read.specs.DoubleText.{double_of}
+use Rattle.bson_order.specs.Wholes.{part_of, whole_of}
 use Rattle.store_model.specs.Filter.{Path}
 use Rattle.store_question.specs.Asked.{Asked, at, whole, exists, is_of, lies, has_size, leaves, begins, has_item, no, all_of, any_of, Askeds, no_asked, asked}
 use Rattle.store_question.specs.declared.question.Comparison.{Comparison}

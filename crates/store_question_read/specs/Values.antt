@@ -10,7 +10,7 @@ use Rattle.bson_base.specs.Tags.{subtype_byte, subtype_of}
 use Rattle.bson_base.specs.Value.{Scalar, binary, boolean, regex, Value, EachPart, scalar, array, document, scoped_code, Items, no_items, item, Members, no_members, member}
 use Rattle.bson_bytes.specs.Encode.{value_size}
 use Rattle.bson_model.specs.JsonTexts.{long_of}
-use Rattle.bson_numbers.specs.Wholes.{whole_of}
+use Rattle.bson_order.specs.Wholes.{whole_of}
 
 abbrev pub has_no_zero : List ℕ → Bool
 has_no_zero [] = true

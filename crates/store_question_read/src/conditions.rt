@@ -26,7 +26,7 @@ fn near(
 ) -> Result<Question, QueryError>
     ensures { Gives Asks result (near_at (map (λ x. x.now) path.now) key.now comparison numeral.now) }
 {
-    match double_text::read(numeral) {
+    match bson_json_read::double_text::read(numeral) {
         Some(double) => Ok(made::near(alloc, path, comparison, double, exact(numeral))?),
         None => Err(operand(alloc, key)),
     }
@@ -121,13 +121,15 @@ pub(crate) fn of_kind(
 {
     let value = value(alloc, key, tree)?;
     let meant = value.as_raw_bson_ref();
-    if is_number(meant) {
-        return Ok(made::is_a_number(alloc, path)?);
-    }
-    match kind_of(meant) {
-        Some(kind) => Ok(made::has_kind(alloc, path, kind)?),
-        None => Err(operand(alloc, key)),
-    }
+    let asked = if is_number(meant) {
+        made::is_a_number(alloc, path)
+    } else {
+        match kind_of(meant) {
+            Some(kind) => made::has_kind(alloc, path, kind),
+            None => return Err(operand(alloc, key)),
+        }
+    };
+    Ok(asked?)
 }
 
 /// The value at the path is an array of so many items.

@@ -3,7 +3,7 @@
 ghost use Rattle.std.specs.Prelude.{◌≡◌, map, None, option_map, IfOk};
 ghost use Rattle.bson_base.specs.Scalars.{decimal_bytes};
 ghost use Rattle.bson_base.specs.Value.{Value};
-ghost use Rattle.store_filter.specs.Filters.{path_of};
+ghost use Rattle.store_question.specs.Filters.{path_of};
 ghost use Rattle.store_question.specs.Asked.{Asked, Askeds, at as Within, whole as Whole, exists, is_of, lies as Lies, has_size, leaves as Leaves, begins as Begins, has_item, no, all_of, any_of};
 ghost use Rattle.store_question_read.specs.Outcome.{AskEach, Asks, Spells};
 ghost use Rattle.store_question_read.specs.Query.{both as Both, either as Either, every as every_of, holds as holds_in, is_a_number as number_at, keys, lies_near, others_lie, there as there_at};

@@ -1,10 +1,9 @@
 //! Queries.
 
 ghost use Rattle.std.specs.Prelude.{◌≡◌, map, []};
-ghost use Rattle.json.specs.Json.{object};
-ghost use Rattle.json.specs.Value.{items_view, members_view, value_view as data_of};
+ghost use Rattle.json.specs.Value.{members_view, value_view as data_of};
 ghost use Rattle.store_question_read.specs.Outcome.{AskEach, Asks, Gives, IsQuery};
-ghost use Rattle.store_question_read.specs.Query.{condition as condition_at, each as each_at, entries as entries_at, entry as entry_at, items as items_at, joining_of, kind_or_kinds, listed as listed_at, match_alone as match_alone_at, matching as matching_at, one_at_least, operator_of, operators as operators_at, query, test as test_at, tests as tests_at, together as together_at};
+ghost use Rattle.store_question_read.specs.Query.{condition as condition_at, entries as entries_at, entry as entry_at, items as items_at, joining_of, kind_or_kinds, listed as listed_at, match_alone as match_alone_at, matching as matching_at, one_at_least, operator_of, operators as operators_at, query, test as test_at, tests as tests_at, together as together_at};
 
 use crate::conditions::{
     begins, differs, divided, equals, exactly, filled, lies, of_kind, sized, there, without_options,
@@ -28,18 +27,10 @@ use store_question::Question;
 pub fn query_of(alloc: Global, tree: &Value<'_>) -> Result<Question, QueryError>
     ensures { Gives Asks result (query (data_of tree.now)) }
 {
-    match tree {
-        Value::Object(members) => all_entries(alloc, members.as_slice()),
-        _ => Err(QueryError::Query),
-    }
-}
-
-/// The question of a query's members, all of which have to hold: a query without any is answered by every document.
-#[cycle(query)]
-fn all_entries(alloc: Global, members: &[(&str, Value<'_>)]) -> Result<Question, QueryError>
-    ensures { Gives Asks result (query (object (members_view members.now))) }
-{
-    let list = entries(alloc, members)?;
+    let Value::Object(members) = tree else {
+        return Err(QueryError::Query);
+    };
+    let list = entries(alloc, members.as_slice())?;
     Ok(made::all(list))
 }
 
@@ -56,8 +47,8 @@ fn entries(alloc: Global, members: &[(&str, Value<'_>)]) -> Result<Vec<Question>
     Ok(questions)
 }
 
-/// The question of one member of a query: queries that are joined, or what is asked of the path `key`. `$comment`
-/// asks nothing. `Operator` for any other key that begins with `$`.
+/// The question of one member of a query: queries that are joined, or what is asked of the path `key`, operators or
+/// that it has a value. `$comment` asks nothing. `Operator` for any other key that begins with `$`.
 #[cycle(query)]
 fn entry(alloc: Global, key: &str, body: &Value<'_>) -> Result<Question, QueryError>
     ensures { Gives Asks result (entry_at key.now (joining_of key.now) (items_at [] key.now Listed.Queries (data_of body.now)) (condition_at key.now (data_of body.now))) }
@@ -76,11 +67,13 @@ fn entry(alloc: Global, key: &str, body: &Value<'_>) -> Result<Question, QueryEr
             Ok(made::none(alloc, list)?)
         }
         Some(Joining::Comment) => Ok(made::all(Vec::new(alloc))),
+        None if begins_with_dollar(key) => Err(operator(alloc, key)),
         None => {
-            if begins_with_dollar(key) {
-                Err(operator(alloc, key))
+            let pieces = made::pieces(alloc, key)?;
+            if has_operators(body) {
+                operators(alloc, pieces.as_slice(), key, body)
             } else {
-                condition(alloc, key, body)
+                equals(alloc, pieces.as_slice(), key, body)
             }
         }
     }
@@ -95,20 +88,8 @@ fn queries(alloc: Global, key: &str, body: &Value<'_>) -> Result<Vec<Question>, 
     filled(alloc, key, list)
 }
 
-/// What is asked of a path: operators, or that it has a value.
-#[cycle(query)]
-fn condition(alloc: Global, key: &str, body: &Value<'_>) -> Result<Question, QueryError>
-    ensures { Gives Asks result (condition_at key.now (data_of body.now)) }
-{
-    let pieces = made::pieces(alloc, key)?;
-    if has_operators(body) {
-        operators(alloc, pieces.as_slice(), key, body)
-    } else {
-        equals(alloc, pieces.as_slice(), key, body)
-    }
-}
-
-/// All operators of an object.
+/// The operators under a path, all of which have to hold. `Operand`, which names `key`, if `body` is no object, there
+/// are none, or the first key is for no operator.
 #[cycle(query)]
 fn operators(
     alloc: Global,
@@ -118,36 +99,22 @@ fn operators(
 ) -> Result<Question, QueryError>
     ensures { Gives Asks result (operators_at (map (λ x. x.now) path.now) key.now (data_of body.now)) }
 {
-    match body {
-        Value::Object(members) => all_tests(alloc, path, key, members.as_slice()),
-        _ => Err(operand(alloc, key)),
-    }
-}
-
-/// The operators under a path, all of which have to hold. `Operand`, which names `key`, if there are none, or the
-/// first key is for no operator.
-#[cycle(query)]
-fn all_tests(
-    alloc: Global,
-    path: &[&str],
-    key: &str,
-    members: &[(&str, Value<'_>)],
-) -> Result<Question, QueryError>
-    ensures { Gives Asks result
-        (operators_at (map (λ x. x.now) path.now) key.now (object (members_view members.now))) }
-{
+    let Value::Object(object) = body else {
+        return Err(operand(alloc, key));
+    };
+    let members = object.as_slice();
     if are_operators(members) {
-        let list = together(alloc, path, members)?;
+        let list = tests(alloc, path, members)?;
         Ok(made::all(list))
     } else {
         Err(operand(alloc, key))
     }
 }
 
-/// One question for each operator under a path. `Operand`, which names `$options`, if it is there without `$regex`,
-/// whatever else is at fault.
+/// One question for each operator under a path, in their order. `Operand`, which names `$options`, if it is there
+/// without `$regex`, whatever else is at fault; else the error is that of the first one at fault.
 #[cycle(query)]
-fn together(
+fn tests(
     alloc: Global,
     path: &[&str],
     members: &[(&str, Value<'_>)],
@@ -156,21 +123,8 @@ fn together(
         (tests_at (map (λ x. x.now) path.now) (members_view members.now))) }
 {
     if has_lone_options(members) {
-        Err(operand(alloc, "$options"))
-    } else {
-        tests(alloc, path, members)
+        return Err(operand(alloc, "$options"));
     }
-}
-
-/// One question for each operator under a path, in their order. The error is that of the first one at fault.
-#[cycle(query)]
-fn tests(
-    alloc: Global,
-    path: &[&str],
-    members: &[(&str, Value<'_>)],
-) -> Result<Vec<Question>, QueryError>
-    ensures { Gives AskEach result (tests_at (map (λ x. x.now) path.now) (members_view members.now)) }
-{
     let mut questions = Vec::new(alloc);
     for (key, body) in members {
         let question = test(alloc, path, *key, body)?;
@@ -185,34 +139,36 @@ fn tests(
 fn test(alloc: Global, path: &[&str], key: &str, body: &Value<'_>) -> Result<Question, QueryError>
     ensures { Gives Asks result (test_at (map (λ x. x.now) path.now) key.now (operator_of key.now) (data_of body.now) (λ l. items_at (map (λ x. x.now) path.now) key.now l (data_of body.now)) (operators_at (map (λ x. x.now) path.now) key.now (data_of body.now)) (matching_at (map (λ x. x.now) path.now) key.now (data_of body.now))) }
 {
-    match operator_named(key) {
-        Some(Operator::Eq) => exactly(alloc, path, key, body),
-        Some(Operator::Ne) => differs(alloc, path, key, body),
-        Some(Operator::Lies(comparison)) => lies(alloc, path, key, comparison, body),
-        Some(Operator::Size) => sized(alloc, path, key, body),
-        Some(Operator::Exists) => there(alloc, path, key, body),
-        Some(Operator::Mod) => divided(alloc, path, key, body),
-        Some(Operator::Regex) => begins(alloc, path, key, body),
-        Some(Operator::Options) => without_options(alloc, key, body),
-        Some(Operator::ElementMatch) => matching(alloc, path, key, body),
-        Some(Operator::Not) => {
+    let Some(wanted) = operator_named(key) else {
+        return Err(operator(alloc, key));
+    };
+    match wanted {
+        Operator::Eq => exactly(alloc, path, key, body),
+        Operator::Ne => differs(alloc, path, key, body),
+        Operator::Lies(comparison) => lies(alloc, path, key, comparison, body),
+        Operator::Size => sized(alloc, path, key, body),
+        Operator::Exists => there(alloc, path, key, body),
+        Operator::Mod => divided(alloc, path, key, body),
+        Operator::Regex => begins(alloc, path, key, body),
+        Operator::Options => without_options(alloc, key, body),
+        Operator::ElementMatch => matching(alloc, path, key, body),
+        Operator::Not => {
             let inner = operators(alloc, path, key, body)?;
             Ok(made::not(alloc, inner)?)
         }
-        Some(Operator::In) => {
+        Operator::In => {
             let list = items(alloc, path, key, Listed::Values, body)?;
             Ok(made::any(list))
         }
-        Some(Operator::Nin) => {
+        Operator::Nin => {
             let list = items(alloc, path, key, Listed::Values, body)?;
             Ok(made::none(alloc, list)?)
         }
-        Some(Operator::All) => {
+        Operator::All => {
             let list = items(alloc, path, key, Listed::Parts, body)?;
             Ok(made::every(list))
         }
-        Some(Operator::Kind) => of_kinds(alloc, path, key, body),
-        None => Err(operator(alloc, key)),
+        Operator::Kind => of_kinds(alloc, path, key, body),
     }
 }
 
@@ -237,7 +193,8 @@ fn of_kinds(
     }
 }
 
-/// What an item of the array at the path has to match: operators, or a query.
+/// Asks for an array at the path with an item that answers: operators are asked of the item itself, and other members
+/// are a query, which only an item that is a document or an array can answer.
 #[cycle(query)]
 fn matching(
     alloc: Global,
@@ -247,26 +204,12 @@ fn matching(
 ) -> Result<Question, QueryError>
     ensures { Gives Asks result (matching_at (map (λ x. x.now) path.now) key.now (data_of body.now)) }
 {
-    match body {
-        Value::Object(members) => item_matching(alloc, path, key, members.as_slice()),
-        _ => Err(operand(alloc, key)),
-    }
-}
-
-/// Asks for an array at the path with an item that answers: operators are asked of the item itself, and other members
-/// are a query, which only an item that is a document or an array can answer.
-#[cycle(query)]
-fn item_matching(
-    alloc: Global,
-    path: &[&str],
-    key: &str,
-    members: &[(&str, Value<'_>)],
-) -> Result<Question, QueryError>
-    ensures { Gives Asks result
-        (matching_at (map (λ x. x.now) path.now) key.now (object (members_view members.now))) }
-{
+    let Value::Object(object) = body else {
+        return Err(operand(alloc, key));
+    };
+    let members = object.as_slice();
     if are_of_items(members) {
-        let list = together(alloc, &[], members)?;
+        let list = tests(alloc, &[], members)?;
         Ok(made::item(alloc, path, made::all(list))?)
     } else {
         let list = entries(alloc, members)?;
@@ -274,7 +217,7 @@ fn item_matching(
     }
 }
 
-/// `$elemMatch` alone, as an item of `$all`.
+/// What an object under `$all` asks if `$elemMatch` is its only member; else `Operand`, which names `key`.
 #[cycle(query)]
 fn match_alone(
     alloc: Global,
@@ -284,36 +227,17 @@ fn match_alone(
 ) -> Result<Question, QueryError>
     ensures { Gives Asks result (match_alone_at (map (λ x. x.now) path.now) key.now (data_of body.now)) }
 {
-    match body {
-        Value::Object(members) => only_match(alloc, path, key, members.as_slice()),
+    let Value::Object(members) = body else {
+        return Err(operand(alloc, key));
+    };
+    match members.as_slice() {
+        [(name, wanted)] if *name == "$elemMatch" => matching(alloc, path, *name, wanted),
         _ => Err(operand(alloc, key)),
     }
 }
 
-/// What an object under `$all` asks if `$elemMatch` is its only member; else `Operand`, which names `key`.
-#[cycle(query)]
-fn only_match(
-    alloc: Global,
-    path: &[&str],
-    key: &str,
-    members: &[(&str, Value<'_>)],
-) -> Result<Question, QueryError>
-    ensures { Gives Asks result
-        (match_alone_at (map (λ x. x.now) path.now) key.now (object (members_view members.now))) }
-{
-    match members {
-        [(name, wanted)] => {
-            if *name == "$elemMatch" {
-                matching(alloc, path, *name, wanted)
-            } else {
-                Err(operand(alloc, key))
-            }
-        }
-        _ => Err(operand(alloc, key)),
-    }
-}
-
-/// What each item of an array asks.
+/// One question for each item of an array under the operator `key`, in their order. `Operand`, which names `key`, if
+/// `body` is no array; else the error is that of the first item at fault.
 #[cycle(query)]
 fn items(
     alloc: Global,
@@ -324,24 +248,10 @@ fn items(
 ) -> Result<Vec<Question>, QueryError>
     ensures { Gives AskEach result (items_at (map (λ x. x.now) path.now) key.now listed (data_of body.now)) }
 {
-    match body {
-        Value::Array(items) => each(alloc, path, key, listed, items.as_slice()),
-        _ => Err(operand(alloc, key)),
-    }
-}
-
-/// One question for each item of an array under the operator `key`, in their order. The error is that of the first
-/// item at fault.
-#[cycle(query)]
-fn each(
-    alloc: Global,
-    path: &[&str],
-    key: &str,
-    listed: Listed,
-    items: &[Value<'_>],
-) -> Result<Vec<Question>, QueryError>
-    ensures { Gives AskEach result (each_at (map (λ x. x.now) path.now) key.now listed (items_view items.now)) }
-{
+    let Value::Array(array) = body else {
+        return Err(operand(alloc, key));
+    };
+    let items = array.as_slice();
     let mut questions = Vec::new(alloc);
     for item in items {
         let question = one(alloc, path, key, listed, item)?;

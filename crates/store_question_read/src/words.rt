@@ -1,4 +1,4 @@
-//! The words of the language.
+//! The words of the language of queries.
 
 ghost use Rattle.std.specs.Prelude.{◌≡◌};
 ghost use Rattle.json.specs.Value.{members_view, value_view as data_of};

@@ -27,7 +27,7 @@ use Rattle.sqlite.proofs.Callers.{runs_as, one_step, one_permutation, statement_
 use Rattle.store_table.specs.Schema.{documents_at}
 use Rattle.store_table.specs.Rows.{TableRow, columns_of, TableRows, HasRows, HoldsRows, is_at, without_place, with_body_at}
 use Rattle.store_table.proofs.RowLemmas.{cast_null, cast_int}
-use Rattle.store_table.proofs.PlaceLemmas.{at_place, rising_without, rising_replaced}
+use Rattle.store_table.proofs.PlaceLemmas.{at_place, changed_at, none_changed, rising_without, rising_changed}
 use Rattle.store_table.proofs.AnswerLemmas.{and_true, outputs_of, equal_is}
 use Rattle.store_table.proofs.StatementLemmas.{commits_as, at_table, unacted, seen, unseen}
 use Rattle.store_table.specs.Beside.{SparesOthers}
@@ -50,8 +50,10 @@ module _ (p : ℤ) (more : Row) where
   at_test d = and_true _ ∙ equal_is (Int d.place) (Int p) (is_at p d) refl refl (ap is_eq (value_cmp-Int d.place p))
 
   -- the rows that a query by place gives
-  pub by_place : (project : List Term) (docs : List TableRow) (db : Database) (rows : List Row) → (has : TableRows db docs) → Answers db (program_at has.tree project) params rows
-      → ((filter (is_at p) docs ≡ []) × (rows ≡ [])) ⊎ ((d : TableRow) × (filter (is_at p) docs ≡ d ∷ []) × (d.place ≡ p) × (rows ≡ (output (plain_query (equals 0 0 ∷ []) project []) (params ∷ columns_of d ∷ [])).1 ∷ []))
+  abbrev pub FoundAt : List Term → List TableRow → List Row → Type 0
+  FoundAt project docs rows = ((filter (is_at p) docs ≡ []) × (rows ≡ [])) ⊎ ((d : TableRow) × (filter (is_at p) docs ≡ d ∷ []) × (d.place ≡ p) × (rows ≡ (output (plain_query (equals 0 0 ∷ []) project []) (params ∷ columns_of d ∷ [])).1 ∷ []))
+
+  pub by_place : (project : List Term) (docs : List TableRow) (db : Database) (rows : List Row) → (has : TableRows db docs) → Answers db (program_at has.tree project) params rows → FoundAt project docs rows
   by_place project docs db rows has answers =
       let q = plain_query (equals 0 0 ∷ []) project [] in
       let o = outputs_of (equals 0 0 ∷ []) project [] params (is_at p) docs db rows has at_test answers in
@@ -93,32 +95,32 @@ deletes limit mode text p docs db tally after rows h sound =
 abbrev pub update_command : ℕ → ℕ → Rattle.sqlite.specs.Command.Command
 update_command place tree = Update place (program_at tree body_project)
 
-none_replaced : (p : ℤ) (body : List ℕ) (docs : List TableRow) → filter (is_at p) docs ≡ [] → with_body_at p body docs ≡ docs
-none_replaced p body [] h = refl
-none_replaced p body (d ∷ docs) h = go (is_at p d) refl (none_replaced p body docs)
-  where
-    go : (b : Bool) → is_at p d ≡ b → (filter (is_at p) docs ≡ [] → with_body_at p body docs ≡ docs) → with_body_at p body (d ∷ docs) ≡ d ∷ docs
-    go true e k = absurd (let x = rw e at h in cc)
-    go false e k = rw e (ap (λ ds. d ∷ ds) (k (rw e at h)))
-
-pub updates : (limit : Option ℕ) (mode : Mode) (text : List ℕ) (p : ℤ) (body : List ℕ) (docs : List TableRow) (db : Database) (tally : Tally) (after : Database) → (rows : TableRows db docs)
-    → Does limit mode (Int p ∷ Blob body ∷ []) db text None (update_command rows.place rows.tree) (Ok (tally, after)) → IsDatabase after → TableRows after (with_body_at p body docs) × SparesOthers db after
-updates limit mode text p body docs db tally after rows h sound =
+-- an UPDATE of the row at a place, whose query gives the changed row
+pub changes_row : (f : TableRow → TableRow) → ((d : TableRow) → (f d).place ≡ d.place) → (project : List Term) (limit : Option ℕ) (mode : Mode) (text : List ℕ) (p : ℤ) (more : Row) (docs : List TableRow) (db : Database) (tally : Tally) (after : Database) → (rows : TableRows db docs)
+    → ((found : List Row) → FoundAt p more project docs found → IsPermutation (map columns_of (changed_at p f docs)) (edited db.trees (edit_of db.trees (documents_at rows.tree) (ids_of found) Given 1 found)))
+    → Does limit mode (Int p ∷ more) db text None (Update rows.place (program_at rows.tree project)) (Ok (tally, after)) → IsDatabase after → TableRows after (changed_at p f docs) × SparesOthers db after
+changes_row f stays project limit mode text p more docs db tally after rows fits h sound =
     let table = documents_at rows.tree in
-    let done = went (at_table limit mode (Int p ∷ Blob body ∷ []) db (update_command rows.place rows.tree) rows.place table (Ok (tally, after)) rows.stands.at h) in
+    let done = went (at_table limit mode (Int p ∷ more) db (Update rows.place (program_at rows.tree project)) rows.place table (Ok (tally, after)) rows.stands.at h) in
     let now = ap (λ (x : Tally × Database). x.1) (same_value (went (went done.2).2).2) in
     let from = went done.1 in
     let written = went from.2 in
     let trees : done.0.trees ≡ written.0 = ap (λ (it : Written). it.trees) (same_value written.2) in
     let edit : Edit = edit_of db.trees table (ids_of from.0) Given 1 from.0 in
     let step = one_step db.schema mode.keys db.trees written.0 edit (unacted db.schema mode.keys rows.tree (taken_by db.trees edit) edit.news rows.place rows.stands) written.1 in
-    let found = by_place p (Blob body ∷ []) body_project docs db from.0 rows from.1 in
-    let left : IsPermutation (map columns_of (with_body_at p body docs)) (edited db.trees edit) = elim found [
-      | inl none ↦ rw (none.1, none_replaced p body docs none.0) rows.rows
+    let left = fits from.0 (by_place p more project docs db from.0 rows from.1) in
+    table_with db after docs (changed_at p f docs) rows written.0 (edited db.trees edit) (ap (λ (x : Database). x.schema) now) (ap (λ (x : Database). x.trees) now ∙ trees) step.rows left (rising_changed p f stays docs rows.rising) step.tables sound
+
+pub updates : (limit : Option ℕ) (mode : Mode) (text : List ℕ) (p : ℤ) (body : List ℕ) (docs : List TableRow) (db : Database) (tally : Tally) (after : Database) → (rows : TableRows db docs)
+    → Does limit mode (Int p ∷ Blob body ∷ []) db text None (update_command rows.place rows.tree) (Ok (tally, after)) → IsDatabase after → TableRows after (with_body_at p body docs) × SparesOthers db after
+updates limit mode text p body docs db tally after rows h sound =
+    let f = λ (d : TableRow). record d { body = body } in
+    changes_row f (λ d. refl) body_project limit mode text p (Blob body ∷ []) docs db tally after rows
+    (λ found at. elim at [
+      | inl none ↦ rw (none.1, none_changed p f docs none.0) rows.rows
       | inr one ↦ rw (one.3, cast_null, cast_int one.0.place)
-          (subst (λ q. IsPermutation (map columns_of (with_body_at p body docs)) (put_row (columns_of (record one.0 { body = body })) (without_rowid q (db.trees rows.tree)))) (sym one.2) (back_perm p body one.0 docs (db.trees rows.tree) rows.rising one.1 one.2 rows.rows))
-    ] in
-    table_with db after docs (with_body_at p body docs) rows written.0 (edited db.trees edit) (ap (λ (x : Database). x.schema) now) (ap (λ (x : Database). x.trees) now ∙ trees) step.rows left (rising_replaced p body docs rows.rising) step.tables sound
+          (subst (λ q. IsPermutation (map columns_of (with_body_at p body docs)) (put_row (columns_of (f one.0)) (without_rowid q (db.trees rows.tree)))) (sym one.2) (back_perm p f (λ d. refl) one.0 docs (db.trees rows.tree) rows.rising one.1 one.2 rows.rows))
+    ]) h sound
 
 module _ (p : ℤ) (old new : State) (docs : List TableRow) (h : HoldsRows old docs) where
   abbrev here : ℕ

@@ -6,7 +6,6 @@ use Rattle.sqlite.specs.Term.{Term, lit, col}
 use Rattle.sqlite.specs.Command.TheVariants.{Insert, Update, Delete}
 use Rattle.sqlite.specs.Source.TheVariants.{Values}
 use Rattle.sqlite_schema.specs.declared.program.Program.{Program}
-use Rattle.sqlite_ast.specs.declared.Expr.{Expr}
 use Rattle.sqlite_ast.specs.declared.Rows.TheVariants as rows
 use Rattle.sqlite_ast.specs.declared.Conflict.TheVariants as conflict
 use Rattle.sqlite_ast.specs.declared.Statement.{Statement}
@@ -20,7 +19,7 @@ use Rattle.sqlite_resolve.specs.Write.{simple, row, over, assigned, picked, upda
 use Rattle.sqlite_resolve.specs.Program.{program as typed}
 use Rattle.sqlite_resolve.specs.Compile.{new_rows, insert, insert_or_abort, update, delete, command, timed}
 use Rattle.sqlite_tied.specs.Compute.{everything}
-use Rattle.store_table.specs.Schema.{documents, documents_at, HasDocuments}
+use Rattle.store_table.specs.Schema.{documents_at, HasDocuments}
 use Rattle.store_table.proofs.LookLemmas.{by_nothing}
 use Rattle.store_table.proofs.FilterLemmas.{after, parameter, place_test, place_lowered}
 use Rattle.store_table.proofs.TextLemmas.{query_at, program, equals, insert_terms}

@@ -1,33 +1,27 @@
 -- What the UPDATE of a key does, in a transaction.
-use Rattle.std.proofs.Common.{◌≡◌, inl, inr, ℕ, ℤ, List, [], ◌∷◌, map, filter, Bool, true, false, None, Ok, Err, Result, refl, sym, ap, subst, ◌∙◌, Option, OnOk, IsTrue, take, length, suc, zero, get_or, ◌+◌, ◌<◌, arith}
+use Rattle.std.proofs.Common.{◌≡◌, inl, inr, ℕ, ℤ, List, [], ◌∷◌, map, None, Ok, Err, Result, refl, sym, ap, subst, ◌∙◌, Option, OnOk, IsTrue, take, length, suc, zero, get_or, ◌+◌, ◌<◌, arith}
 use Rattle.std.specs.List.Sorted.{IsPermutation}
 use Rattle.sqlite.specs.declared.types.Value.TheVariants.{Int, Blob}
 use Rattle.sqlite.specs.Order.{Row}
 use Rattle.sqlite_trees.specs.Tree.{put_row, without_rowid}
 use Rattle.sqlite.specs.Command.TheVariants.{Update}
 use Rattle.sqlite.specs.Edit.{Edit, edit_of, edited}
-use Rattle.sqlite_rules.specs.Edit.{taken_by}
-use Rattle.sqlite.specs.Rowids.TheVariants.{Given}
-use Rattle.sqlite_rules.specs.Calls.{ids_of}
 use Rattle.sqlite.specs.Does.{Tally, Does}
-use Rattle.sqlite.specs.Rows.{Written}
 use Rattle.sqlite.specs.Effect.{Database, IsDatabase}
 use Rattle.sqlite.specs.declared.run.Mode.{Mode}
 use Rattle.sqlite.specs.declared.error.Error.{Error}
 use Rattle.sqlite.specs.State.{State, mode_of, ExecutesInside}
 use Rattle.sqlite.specs.Listing.{understood}
-use Rattle.sqlite.proofs.Callers.{runs_as, one_step, statement_of}
+use Rattle.sqlite.proofs.Callers.{runs_as, statement_of}
 use Rattle.store_table.specs.declared.row.NewKey.{NewKey}
 use Rattle.store_table.specs.Open.{HasCommitted}
-use Rattle.store_table.specs.Schema.{documents_at}
-use Rattle.store_table.specs.Rows.{TableRow, columns_of, TableRows, RowsIn, Inside, is_at, with_key_at, with_keys_at}
-use Rattle.store_table.proofs.StatementLemmas.{at_table, unacted, seen, unseen}
+use Rattle.store_table.specs.Rows.{TableRow, columns_of, TableRows, RowsIn, Inside, with_key_at, with_keys_at}
+use Rattle.store_table.proofs.StatementLemmas.{seen, unseen}
 use Rattle.store_table.proofs.RowLemmas.{cast_null, cast_int}
-use Rattle.store_table.proofs.PlaceLemmas.{rising_rekeyed}
+use Rattle.store_table.proofs.PlaceLemmas.{none_changed}
 use Rattle.store_table.specs.Beside.{SparesOthers}
-use Rattle.store_table.proofs.PermLemmas.{key_perm}
-use Rattle.store_table.proofs.InsertLemmas.{went, same_value, table_with}
-use Rattle.store_table.proofs.ChangeLemmas.{by_place}
+use Rattle.store_table.proofs.PermLemmas.{back_perm}
+use Rattle.store_table.proofs.ChangeLemmas.{changes_row}
 use Rattle.store_table.proofs.TextLemmas.{rekey_text}
 use Rattle.store_table.proofs.CommandLemmas.{program_at, idkey_project}
 use Rattle.store_table.proofs.MeansLemmas.{rekey_is}
@@ -35,32 +29,16 @@ use Rattle.store_table.proofs.MeansLemmas.{rekey_is}
 abbrev rekey_command : ℕ → ℕ → Rattle.sqlite.specs.Command.Command
 rekey_command place tree = Update place (program_at tree idkey_project)
 
-none_rekeyed : (p : ℤ) (idkey : List ℕ) (docs : List TableRow) → filter (is_at p) docs ≡ [] → with_key_at p idkey docs ≡ docs
-none_rekeyed p idkey [] h = refl
-none_rekeyed p idkey (d ∷ docs) h = go (is_at p d) refl (none_rekeyed p idkey docs)
-  where
-    go : (b : Bool) → is_at p d ≡ b → (filter (is_at p) docs ≡ [] → with_key_at p idkey docs ≡ docs) → with_key_at p idkey (d ∷ docs) ≡ d ∷ docs
-    go true e k = absurd (let x = rw e at h in cc)
-    go false e k = rw e (ap (λ ds. d ∷ ds) (k (rw e at h)))
-
 rekeys : (limit : Option ℕ) (mode : Mode) (text : List ℕ) (p : ℤ) (idkey : List ℕ) (docs : List TableRow) (db : Database) (tally : Tally) (after : Database) → (rows : TableRows db docs)
     → Does limit mode (Int p ∷ Blob idkey ∷ []) db text None (rekey_command rows.place rows.tree) (Ok (tally, after)) → IsDatabase after → TableRows after (with_key_at p idkey docs) × SparesOthers db after
 rekeys limit mode text p idkey docs db tally after rows h sound =
-    let table = documents_at rows.tree in
-    let done = went (at_table limit mode (Int p ∷ Blob idkey ∷ []) db (rekey_command rows.place rows.tree) rows.place table (Ok (tally, after)) rows.stands.at h) in
-    let now = ap (λ (x : Tally × Database). x.1) (same_value (went (went done.2).2).2) in
-    let from = went done.1 in
-    let written = went from.2 in
-    let trees : done.0.trees ≡ written.0 = ap (λ (it : Written). it.trees) (same_value written.2) in
-    let edit : Edit = edit_of db.trees table (ids_of from.0) Given 1 from.0 in
-    let step = one_step db.schema mode.keys db.trees written.0 edit (unacted db.schema mode.keys rows.tree (taken_by db.trees edit) edit.news rows.place rows.stands) written.1 in
-    let found = by_place p (Blob idkey ∷ []) idkey_project docs db from.0 rows from.1 in
-    let left : IsPermutation (map columns_of (with_key_at p idkey docs)) (edited db.trees edit) = elim found [
-      | inl none ↦ rw (none.1, none_rekeyed p idkey docs none.0) rows.rows
+    let f = λ (d : TableRow). record d { idkey = idkey } in
+    changes_row f (λ d. refl) idkey_project limit mode text p (Blob idkey ∷ []) docs db tally after rows
+    (λ found at. elim at [
+      | inl none ↦ rw (none.1, none_changed p f docs none.0) rows.rows
       | inr one ↦ rw (one.3, cast_null, cast_int one.0.place)
-          (subst (λ q. IsPermutation (map columns_of (with_key_at p idkey docs)) (put_row (columns_of (record one.0 { idkey = idkey })) (without_rowid q (db.trees rows.tree)))) (sym one.2) (key_perm p idkey one.0 docs (db.trees rows.tree) rows.rising one.1 one.2 rows.rows))
-    ] in
-    table_with db after docs (with_key_at p idkey docs) rows written.0 (edited db.trees edit) (ap (λ (x : Database). x.schema) now) (ap (λ (x : Database). x.trees) now ∙ trees) step.rows left (rising_rekeyed p idkey docs rows.rising) step.tables sound
+          (subst (λ q. IsPermutation (map columns_of (with_key_at p idkey docs)) (put_row (columns_of (f one.0)) (without_rowid q (db.trees rows.tree)))) (sym one.2) (back_perm p f (λ d. refl) one.0 docs (db.trees rows.tree) rows.rising one.1 one.2 rows.rows))
+    ]) h sound
 
 module _ (p : ℤ) (idkey : List ℕ) (old new : State) (first docs : List TableRow) (h : Inside old first docs) where
   rekey_ok : (count : ℕ) → ExecutesInside 0 rekey_text (Int p ∷ Blob idkey ∷ []) old new (Ok count) → Inside new first (with_key_at p idkey docs) × SparesOthers old.now new.now

@@ -1,5 +1,5 @@
 -- What a column of the table means, wherever the table is in a schema.
-use Rattle.std.proofs.Common.{◌≡◌, ℕ, ◌+◌, ◌-◌, suc, ◌++◌, List, [], ◌∷◌, codes, Bool, true, false, Option, None, Some, Ok, refl, nat_lt}
+use Rattle.std.proofs.Common.{◌≡◌, ℕ, ◌-◌, suc, ◌++◌, List, [], ◌∷◌, codes, Bool, true, false, Option, None, Some, Ok, refl, nat_lt}
 use Rattle.sqlite.specs.Schema.{Schema}
 use Rattle.sqlite.specs.Term.{col}
 use Rattle.sqlite.specs.Collation.TheVariants.{Binary}

@@ -1,13 +1,13 @@
 -- The edits on rows of which only a permutation is known.
-use Rattle.std.proofs.Common.{cond, map, ap, sym, subst, ℕ, ◌≡◌, List, [], ◌∷◌, ◌++◌, filter, Bool, true, false, not, refl, Ordering, Less, Equal, Greater}
+use Rattle.std.proofs.Common.{cond, map, ap, sym, subst, ◌≡◌, ◌∙◌, List, [], ◌∷◌, ◌++◌, filter, Bool, true, false, not, refl, Ordering, Less, Equal, Greater}
 use Rattle.std.specs.List.{AllByRecursion}
 use Rattle.std.specs.Ordering.{match_ordering}
 use Rattle.std.specs.List.Sorted.{IsPermutation}
 use Rattle.std.proofs.lemmas.List.Sorted.{IsPermutation-refl, IsPermutation-sym, IsPermutation-cons, IsPermutation-middle, IsPermutation-trans, IsPermutation-to_front, All-permutation}
 use Rattle.std.proofs.lemmas.List.Elements.{All-from_recursion, recursion_from_All}
 use Rattle.sqlite.specs.declared.types.Value.TheVariants.{Int}
-use Rattle.store_table.specs.Rows.{TableRow, columns_of, IsRising, AreBelow, is_at, without_place, with_body_at, with_key_at}
-use Rattle.store_table.proofs.PlaceLemmas.{below_is, without_is, put_back, key_back}
+use Rattle.store_table.specs.Rows.{TableRow, columns_of, IsRising, AreBelow, is_at, without_place}
+use Rattle.store_table.proofs.PlaceLemmas.{below_is, without_is, changed_at, put_back}
 use Rattle.sqlite_trees.proofs.ListLemmas.{IsPermutation-filter}
 use Rattle.sqlite.specs.Order.{Row, value_cmp}
 use Rattle.sqlite_trees.specs.Tree.{rowid, put_row, has_rowid, without_rowid}
@@ -59,24 +59,13 @@ untied p (r ∷ rows) = go (has_rowid p r) refl (untied p rows)
     go true e h = h
     go false e h = ((λ tie. let x = rw tie at e in cc), h)
 
--- a row that is put back with another body
-pub back_perm : (p : ℤ) (body : List ℕ) (d : TableRow) (docs : List TableRow) (rows : List Row) → IsRising docs → filter (is_at p) docs ≡ d ∷ [] → d.place ≡ p → IsPermutation (map columns_of docs) rows
-    → IsPermutation (map columns_of (with_body_at p body docs)) (put_row (columns_of (record d { body = body })) (without_rowid p rows))
-back_perm p body d docs rows up one at h =
-    let new = columns_of (record d { body = body }) in
+-- a row that is put back as another one, at its place
+pub back_perm : (p : ℤ) (f : TableRow → TableRow) → ((d : TableRow) → (f d).place ≡ d.place) → (d : TableRow) (docs : List TableRow) (rows : List Row) → IsRising docs → filter (is_at p) docs ≡ d ∷ [] → d.place ≡ p → IsPermutation (map columns_of docs) rows
+    → IsPermutation (map columns_of (changed_at p f docs)) (put_row (columns_of (f d)) (without_rowid p rows))
+back_perm p f stays d docs rows up one at h =
+    let new = columns_of (f d) in
     let left = map columns_of (without_place p docs) in
-    let free = λ (rs : List Row). subst (λ q. AllByRecursion (λ (r : Row). value_cmp (rowid r) (Int q) ≡ Equal → ⊥) (without_rowid p rs)) (sym at) (untied p rs) in
-    let sorted = subst (λ xs. IsPermutation (new ∷ left) xs) (put_back p body d docs up one at) (put_perm new left (subst (AllByRecursion (λ (r : Row). value_cmp (rowid r) (Int d.place) ≡ Equal → ⊥)) (without_is p docs) (free (map columns_of docs)))) in
-    IsPermutation-trans (map columns_of (with_body_at p body docs)) (new ∷ left) (put_row new (without_rowid p rows)) (IsPermutation-sym (new ∷ left) (map columns_of (with_body_at p body docs)) sorted)
-    (IsPermutation-trans (new ∷ left) (new ∷ without_rowid p rows) (put_row new (without_rowid p rows)) (IsPermutation-cons new left (without_rowid p rows) (gone_perm p docs rows h)) (put_perm new (without_rowid p rows) (free rows)))
-
--- a row that is put back with another key
-pub key_perm : (p : ℤ) (idkey : List ℕ) (d : TableRow) (docs : List TableRow) (rows : List Row) → IsRising docs → filter (is_at p) docs ≡ d ∷ [] → d.place ≡ p → IsPermutation (map columns_of docs) rows
-    → IsPermutation (map columns_of (with_key_at p idkey docs)) (put_row (columns_of (record d { idkey = idkey })) (without_rowid p rows))
-key_perm p idkey d docs rows up one at h =
-    let new = columns_of (record d { idkey = idkey }) in
-    let left = map columns_of (without_place p docs) in
-    let free = λ (rs : List Row). subst (λ q. AllByRecursion (λ (r : Row). value_cmp (rowid r) (Int q) ≡ Equal → ⊥) (without_rowid p rs)) (sym at) (untied p rs) in
-    let sorted = subst (λ xs. IsPermutation (new ∷ left) xs) (key_back p idkey d docs up one at) (put_perm new left (subst (AllByRecursion (λ (r : Row). value_cmp (rowid r) (Int d.place) ≡ Equal → ⊥)) (without_is p docs) (free (map columns_of docs)))) in
-    IsPermutation-trans (map columns_of (with_key_at p idkey docs)) (new ∷ left) (put_row new (without_rowid p rows)) (IsPermutation-sym (new ∷ left) (map columns_of (with_key_at p idkey docs)) sorted)
+    let free = λ (rs : List Row). subst (λ q. AllByRecursion (λ (r : Row). value_cmp (rowid r) (Int q) ≡ Equal → ⊥) (without_rowid p rs)) (sym at ∙ sym (stays d)) (untied p rs) in
+    let sorted = subst (λ xs. IsPermutation (new ∷ left) xs) (put_back p f stays d docs up one at) (put_perm new left (subst (AllByRecursion (λ (r : Row). value_cmp (rowid r) (Int (f d).place) ≡ Equal → ⊥)) (without_is p docs) (free (map columns_of docs)))) in
+    IsPermutation-trans (map columns_of (changed_at p f docs)) (new ∷ left) (put_row new (without_rowid p rows)) (IsPermutation-sym (new ∷ left) (map columns_of (changed_at p f docs)) sorted)
     (IsPermutation-trans (new ∷ left) (new ∷ without_rowid p rows) (put_row new (without_rowid p rows)) (IsPermutation-cons new left (without_rowid p rows) (gone_perm p docs rows h)) (put_perm new (without_rowid p rows) (free rows)))

@@ -1,5 +1,5 @@
 -- What a SELECT over the table means, wherever the table is in a schema.
-use Rattle.std.proofs.Common.{◌≡◌, ℕ, ◌+◌, ◌-◌, suc, List, [], ◌∷◌, map, codes, negsuc, Bool, true, false, Option, None, Some, Ok, refl, nat_lt}
+use Rattle.std.proofs.Common.{◌≡◌, ℕ, ◌-◌, suc, List, [], ◌∷◌, map, codes, negsuc, Bool, true, false, Option, None, Some, Ok, refl, nat_lt}
 use Rattle.sqlite.specs.declared.types.Value.TheVariants.{Int}
 use Rattle.sqlite.specs.Schema.{Schema}
 use Rattle.sqlite.specs.Term.{Term, lit, col}
@@ -33,7 +33,7 @@ use Rattle.sqlite_resolve.specs.Select.{outermost, inside, having, parts, ungrou
 use Rattle.sqlite_resolve.specs.Program.{Building, Shown as Answer, source, sources, viewing, single, alone, with, whole, level, query_to, query, program as typed}
 use Rattle.sqlite_resolve.specs.Compile.{read}
 use Rattle.sqlite_tied.specs.Compute.{everything}
-use Rattle.store_table.specs.Schema.{documents, HasDocuments}
+use Rattle.store_table.specs.Schema.{HasDocuments}
 use Rattle.store_table.proofs.TreeLemmas.{trees}
 use Rattle.store_table.proofs.LookLemmas.{bound_at, by_bytes, by_nothing, named_column, shown_column, output_of, scope_at, IsColumn, lowers, shows_column, table_is, place_column, coll_column, idkey_column, body_column}
 use Rattle.store_table.proofs.FilterLemmas.{collected, after, by_collate, named_terms, scan_terms, named_test, scan_test, named_lowered, scan_lowered, place_test, place_lowered}

@@ -14,7 +14,7 @@ use Rattle.sqlite.specs.State.{State}
 use Rattle.sqlite.proofs.Callers.{begins_as}
 use Rattle.sqlite_tied.specs.Compute.{everything}
 use Rattle.store_table.specs.Rows.{TableRow, columns_of, HoldsRows, is_in}
-use Rattle.store_table.specs.Visit.{IsSelect, TookRows, TookSome, first_value, scan_text, TookPlaced, TookSomePlaced, placed, placed_text}
+use Rattle.store_table.specs.Visit.{IsSelect, TookRows, TookSome, first_value, scan_text, placed, placed_text}
 use Rattle.store_table.specs.Moves.{bodies_of, placed_of, parts_of_row}
 use Rattle.store_table.proofs.StatementLemmas.{seen}
 use Rattle.store_table.proofs.TextLemmas.{query_at, program, by_place}
@@ -44,7 +44,7 @@ some_values [] rest = refl
 some_values (r ∷ taken) rest = ap (λ vs. first_value r ∷ vs) (some_values taken rest)
 
 module _ {V : Type 0} (took : V → List (List ℕ) → Type 0) (v : V) (coll : List ℕ) (old : State) (docs : List TableRow) (h : HoldsRows old docs) where
-  pub whole_scan : (new : State) → TookRows took v scan_text (Text coll ∷ []) old new → took v (bodies_of coll docs)
+  pub whole_scan : (new : State) → TookRows (λ (w : V) rows. took w (map first_value rows)) v scan_text (Text coll ∷ []) old new → took v (bodies_of coll docs)
   whole_scan new t =
       let params = Text coll ∷ [] in
       let project = col 1 4 ∷ [] in
@@ -53,7 +53,7 @@ module _ {V : Type 0} (took : V → List (List ℕ) → Type 0) (v : V) (coll : 
       let all = in_order scan_terms project params (is_in coll) docs t.0 (seen h.table).rising (outputs_of scan_terms project by_place params (is_in coll) docs old.now t.0 (seen h.table) (scan_test coll) answer) in
       subst (λ vs. took v vs) (ap (map first_value) all ∙ values_are (filter (is_in coll) docs)) t.2
 
-  pub some_scan : TookSome took v scan_text (Text coll ∷ []) old → (taken : List (List ℕ)) × (rest : List (List ℕ)) × (taken ++ rest ≡ bodies_of coll docs) × took v taken
+  pub some_scan : TookSome (λ (w : V) rows. took w (map first_value rows)) v scan_text (Text coll ∷ []) old → (taken : List (List ℕ)) × (rest : List (List ℕ)) × (taken ++ rest ≡ bodies_of coll docs) × took v taken
   some_scan (rows, inl none, t) = ([], bodies_of coll docs, refl, subst (λ (rs : List Row). took v (map first_value rs)) none t)
   some_scan (rows, inr begun, t) =
       let params = Text coll ∷ [] in
@@ -79,7 +79,7 @@ some_placed_values [] rest = refl
 some_placed_values (r ∷ taken) rest = ap (λ vs. placed r ∷ vs) (some_placed_values taken rest)
 
 module _ {V : Type 0} (took : V → List (ℤ × List ℕ) → Type 0) (v : V) (coll : List ℕ) (old : State) (docs : List TableRow) (h : HoldsRows old docs) where
-  pub whole_placed : (new : State) → TookPlaced took v placed_text (Text coll ∷ []) old new → took v (placed_of coll docs)
+  pub whole_placed : (new : State) → TookRows (λ (w : V) rows. took w (map placed rows)) v placed_text (Text coll ∷ []) old new → took v (placed_of coll docs)
   whole_placed new t =
       let params = Text coll ∷ [] in
       let project = col 1 0 ∷ col 1 4 ∷ [] in
@@ -88,7 +88,7 @@ module _ {V : Type 0} (took : V → List (ℤ × List ℕ) → Type 0) (v : V) (
       let all = in_order scan_terms project params (is_in coll) docs t.0 (seen h.table).rising (outputs_of scan_terms project by_place params (is_in coll) docs old.now t.0 (seen h.table) (scan_test coll) answer) in
       subst (λ vs. took v vs) (ap (map placed) all ∙ placed_are (filter (is_in coll) docs)) t.2
 
-  pub some_placed : TookSomePlaced took v placed_text (Text coll ∷ []) old → (taken : List (ℤ × List ℕ)) × (rest : List (ℤ × List ℕ)) × (taken ++ rest ≡ placed_of coll docs) × took v taken
+  pub some_placed : TookSome (λ (w : V) rows. took w (map placed rows)) v placed_text (Text coll ∷ []) old → (taken : List (ℤ × List ℕ)) × (rest : List (ℤ × List ℕ)) × (taken ++ rest ≡ placed_of coll docs) × took v taken
   some_placed (rows, inl none, t) = ([], placed_of coll docs, refl, subst (λ (rs : List Row). took v (map placed rs)) none t)
   some_placed (rows, inr begun, t) =
       let params = Text coll ∷ [] in

@@ -15,7 +15,7 @@ use Rattle.store_table.specs.Fault.{fault_of}
 use Rattle.store_table.specs.Rows.{TableRow, RowsIn, HasRows, HoldsRows, AreBelow, last_place}
 use Rattle.store_table.specs.Cells.{int_in, bytes_in}
 use Rattle.store_table.specs.Moves.{Stands, MayLeave, Visits, VisitsPlaced, placed_of, Changes, AddsBehind, with_row, bodies_of, parts_of_found, parts_of_row, body_if_in}
-use Rattle.store_table.specs.Visit.{TookSome, first_value, scan_text, TookSomePlaced, placed, placed_text}
+use Rattle.store_table.specs.Visit.{TookSome, first_value, scan_text, placed, placed_text}
 use Rattle.store_table.specs.declared.fault.Fault.{Fault}
 use Rattle.store_table.proofs.ScanLemmas.{some_scan, some_placed}
 use Rattle.store_table.proofs.StatementLemmas.{unchanged_shows, seen}
@@ -113,7 +113,7 @@ crash_written old mid new change made same before later is =
 
 -- a visit that is refused: whatever was taken is a beginning
 pub visits_refused : {V : Type 0} (took : V → List (List ℕ) → Type 0) (first last : V) (coll : List ℕ) (old : State) (docs : List TableRow) → Stands old docs → (r : Result Bool Fault) (why : Error) → IsErrAnd r (λ e. e ≡ fault_of why)
-    → (took first [] → TookSome took last scan_text (Text coll ∷ []) old) → Visits took first last coll r docs docs
+    → (took first [] → TookSome (λ w rows. took w (map first_value rows)) last scan_text (Text coll ∷ []) old) → Visits took first last coll r docs docs
 visits_refused took first last coll old docs stands (Ok all) why is some = absurd is
 visits_refused took first last coll old docs stands (Err e) why is some = record {
   same = refl;
@@ -122,13 +122,13 @@ visits_refused took first last coll old docs stands (Err e) why is some = record
   faults = λ places. not_places why (sym is ∙ places);
 }
   where
-    begun : TookSome took last scan_text (Text coll ∷ []) old → (taken : List (List ℕ)) × (rest : List (List ℕ)) × (taken ++ rest ≡ bodies_of coll docs) × took last taken
+    begun : TookSome (λ w rows. took w (map first_value rows)) last scan_text (Text coll ∷ []) old → (taken : List (List ℕ)) × (rest : List (List ℕ)) × (taken ++ rest ≡ bodies_of coll docs) × took last taken
     begun (rows, inl none, t) = ([], bodies_of coll docs, refl, subst (λ (rs : List Row). took last (map first_value rs)) none t)
     begun (rows, inr given, t) = some_scan took last coll old docs (stands given.0) (rows, inr given, t)
 
 -- a visit that is refused: whatever was taken is a beginning
 pub placed_refused : {V : Type 0} (took : V → List (ℤ × List ℕ) → Type 0) (first last : V) (coll : List ℕ) (old : State) (docs : List TableRow) → Stands old docs → (r : Result Bool Fault) (why : Error) → IsErrAnd r (λ e. e ≡ fault_of why)
-    → (took first [] → TookSomePlaced took last placed_text (Text coll ∷ []) old) → VisitsPlaced took first last coll r docs docs
+    → (took first [] → TookSome (λ w rows. took w (map placed rows)) last placed_text (Text coll ∷ []) old) → VisitsPlaced took first last coll r docs docs
 placed_refused took first last coll old docs stands (Ok all) why is some = absurd is
 placed_refused took first last coll old docs stands (Err e) why is some = record {
   same = refl;
@@ -137,7 +137,7 @@ placed_refused took first last coll old docs stands (Err e) why is some = record
   faults = λ places. not_places why (sym is ∙ places);
 }
   where
-    begun : TookSomePlaced took last placed_text (Text coll ∷ []) old → (taken : List (ℤ × List ℕ)) × (rest : List (ℤ × List ℕ)) × (taken ++ rest ≡ placed_of coll docs) × took last taken
+    begun : TookSome (λ w rows. took w (map placed rows)) last placed_text (Text coll ∷ []) old → (taken : List (ℤ × List ℕ)) × (rest : List (ℤ × List ℕ)) × (taken ++ rest ≡ placed_of coll docs) × took last taken
     begun (rows, inl none, t) = ([], placed_of coll docs, refl, subst (λ (rs : List Row). took last (map placed rs)) none t)
     begun (rows, inr given, t) = some_placed took last coll old docs (stands given.0) (rows, inr given, t)
 
@@ -164,6 +164,3 @@ stands_kept old new docs settled keeps stands still =
     let s = keeps settled still in
     let h = stands s.was_open in
     record { is_open = still; autocommit = s.mode ∙ h.autocommit; settled = s.now_is ∙ h.settled ∙ sym s.committed_is; table = subst (λ (d : Database). RowsIn d docs) (sym s.now_is) h.table }
-
-pub kept_open : (old new : State) → IsSettled old → (IsSettled old → KeepsAll old new) → IsTrue new.is_open → IsTrue old.is_open
-kept_open old new settled keeps still = (keeps settled still).was_open

@@ -1,5 +1,5 @@
 -- Rows that are taken one at a time.
-use Rattle.std.proofs.Common.{◌≡◌, inr, ℕ, ℤ, List, [], ◌∷◌, ◌++◌, map, Ok, refl, sym, ap, subst}
+use Rattle.std.proofs.Common.{◌≡◌, inr, ℕ, List, Ok, sym, subst}
 use Rattle.sqlite.specs.Order.{Row}
 use Rattle.sqlite.specs.Effect.{Database}
 use Rattle.sqlite.specs.Listing.{understood, reads_listing, IsSourceOf}
@@ -9,7 +9,7 @@ use Rattle.sqlite_trees.specs.declared.store.Store as store
 use Rattle.sqlite.specs.State.{State, Shown, ShowsRows, Begins, IsUnchanged}
 use Rattle.sqlite.specs.Clock.{timed}
 use Rattle.sqlite.proofs.Callers.{given_begin, unchanged_then}
-use Rattle.store_table.specs.Visit.{IsSelect, TookSome, TookSomePlaced, first_value, placed}
+use Rattle.store_table.specs.Visit.{IsSelect, TookSome}
 use Rattle.store_table.proofs.AnyLemmas.{bare}
 
 -- a prefix stays one if nothing has changed
@@ -25,21 +25,9 @@ begins_before sql params old new rows same h =
       h.5,
     )
 
-pub took_some : {S V : Type 0} (g : store.Ghosts S) (took : V → List (List ℕ) → Type 0) (v : V) (sql : List ℕ) (params : Row) (old : State) (h : Held S) (given : List Row)
-    → HasGiven g sql params h given → IsUnchanged old (state g h) → took v (map first_value given) → TookSome took v sql params old
+pub took_some : {S V : Type 0} (g : store.Ghosts S) (took : V → List Row → Type 0) (v : V) (sql : List ℕ) (params : Row) (old : State) (h : Held S) (given : List Row)
+    → HasGiven g sql params h given → IsUnchanged old (state g h) → took v given → TookSome took v sql params old
 took_some g took v sql params old h given has same t = (given, inr (same.0.was_open, begins_before sql params old (state g h) given same (given_begin g sql params h given has)), t)
-
-pub values_on : (rows : List Row) (r : Row) → map first_value (rows ++ r ∷ []) ≡ map first_value rows ++ first_value r ∷ []
-values_on [] r = refl
-values_on (x ∷ rows) r = ap (λ vs. first_value x ∷ vs) (values_on rows r)
-
-pub took_placed : {S V : Type 0} (g : store.Ghosts S) (took : V → List (ℤ × List ℕ) → Type 0) (v : V) (sql : List ℕ) (params : Row) (old : State) (h : Held S) (given : List Row)
-    → HasGiven g sql params h given → IsUnchanged old (state g h) → took v (map placed given) → TookSomePlaced took v sql params old
-took_placed g took v sql params old h given has same t = (given, inr (same.0.was_open, begins_before sql params old (state g h) given same (given_begin g sql params h given has)), t)
-
-pub placed_on : (rows : List Row) (r : Row) → map placed (rows ++ r ∷ []) ≡ map placed rows ++ placed r ∷ []
-placed_on [] r = refl
-placed_on (x ∷ rows) r = ap (λ vs. placed x ∷ vs) (placed_on rows r)
 
 -- the result is seen from the state before the query
 pub shown_before : (sql : List ℕ) (params : Row) (old mid new : State) (rows : List Row) → IsSelect sql → IsUnchanged old mid → Shown sql params mid new rows → Shown sql params old new rows

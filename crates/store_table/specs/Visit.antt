@@ -1,5 +1,5 @@
 -- Values that are taken one after the other.
-use Rattle.std.specs.Prelude.{◌≡◌, ◌⊎◌, ℕ, ℤ, Bool, true, false, List, [], map, codes, Result, Ok, Err, IsTrue, OnOk, OnErr}
+use Rattle.std.specs.Prelude.{◌≡◌, ◌⊎◌, ℕ, ℤ, Bool, true, false, List, [], codes, Result, Ok, Err, IsTrue, OnOk, OnErr}
 use Rattle.sqlite_value.specs.Order.{Row, column}
 use Rattle.sqlite_ast.specs.declared.Statement.{Statement}
 use Rattle.sqlite_ast.specs.declared.Statement.TheVariants as written
@@ -29,11 +29,11 @@ abbrev pub first_value : Row → List ℕ
 first_value r = bytes_in (column r 0)
 
 -- the visitor has taken the whole result, or the first rows of one
-abbrev pub TookRows : {V : Type 0} → (V → List (List ℕ) → Type 0) → V → List ℕ → Row → State → State → Type 0
-TookRows took v sql params old new = (rows : List Row) × Shown sql params old new rows × took v (map first_value rows)
+abbrev pub TookRows : {V : Type 0} → (V → List Row → Type 0) → V → List ℕ → Row → State → State → Type 0
+TookRows took v sql params old new = (rows : List Row) × Shown sql params old new rows × took v rows
 
-abbrev pub TookSome : {V : Type 0} → (V → List (List ℕ) → Type 0) → V → List ℕ → Row → State → Type 0
-TookSome took v sql params old = (rows : List Row) × ((rows ≡ []) ⊎ (IsTrue old.is_open × Begins sql params old rows)) × took v (map first_value rows)
+abbrev pub TookSome : {V : Type 0} → (V → List Row → Type 0) → V → List ℕ → Row → State → Type 0
+TookSome took v sql params old = (rows : List Row) × ((rows ≡ []) ⊎ (IsTrue old.is_open × Begins sql params old rows)) × took v rows
 
 -- a read that succeeds leaves everything; one that is refused leaves the rows and the other tables, or the connection
 -- is shut
@@ -52,13 +52,6 @@ scan_text = codes "SELECT body FROM documents WHERE +coll = ?1 COLLATE BINARY OR
 -- the place and the body of a row
 abbrev pub placed : Row → ℤ × List ℕ
 placed r = (int_in (column r 0), bytes_in (column r 1))
-
--- the visitor has taken the whole answer, or a beginning of one
-abbrev pub TookPlaced : {V : Type 0} → (V → List (ℤ × List ℕ) → Type 0) → V → List ℕ → Row → State → State → Type 0
-TookPlaced took v sql params old new = (rows : List Row) × Shown sql params old new rows × took v (map placed rows)
-
-abbrev pub TookSomePlaced : {V : Type 0} → (V → List (ℤ × List ℕ) → Type 0) → V → List ℕ → Row → State → Type 0
-TookSomePlaced took v sql params old = (rows : List Row) × ((rows ≡ []) ⊎ (IsTrue old.is_open × Begins sql params old rows)) × took v (map placed rows)
 
 abbrev pub placed_text : List ℕ
 placed_text = codes "SELECT place, body FROM documents WHERE +coll = ?1 COLLATE BINARY ORDER BY place"

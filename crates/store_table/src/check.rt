@@ -7,10 +7,10 @@ ghost use Rattle.sqlite.specs.State.{HasCleanDisk};
 ghost use Rattle.store_table.specs.Crash.{AddsNothing};
 ghost use Rattle.store_table.specs.Rows.{TableRow, last_place};
 ghost use Rattle.store_table.specs.Cells.{is_listed, int_in, doc_of};
-ghost use Rattle.store_table.specs.Check.{IsGoodAfter};
+ghost use Rattle.store_table.specs.Check.{AreGood, IsGoodAfter};
 ghost use Rattle.store_table.specs.Seen.{has_pair, HasSeen};
 ghost use Rattle.store_table.specs.Judged.{JudgesRow};
-ghost use Rattle.store_table.specs.Open.{RefusesOpening, PassesOpening, IsSettled, KeepsAll};
+ghost use Rattle.store_table.specs.Open.{RefusesOpening, PassesOpening, IsSettled, KeepsAll, Reads};
 
 use crate::opening::{OpenError, bytes_at, has_row_types, place_in, refusal};
 use crate::sql;
@@ -62,6 +62,32 @@ impl<C: RowCheck> TestsRows for Own<'_, C> {
 
     fn accepts_row(&self, coll: &[u8], idkey: &[u8], body: &[u8]) -> Result<bool, AllocError> {
         self.check.passes(coll, idkey, body)
+    }
+}
+
+/// What is made of the rows that a test accepts, one after the other.
+pub(crate) trait GathersRows<J: TestsRows> {
+    ghost use Rattle.store_table.specs.Rows.{TableRow};
+
+    // With this test it was made of these rows.
+    ghost is_made_of: { J → List TableRow → Self → Type 0 };
+
+    /// Takes one more row. An error is out of memory.
+    fn gather(&mut self, alloc: Global, row: &Row, check: &J) -> Result<(), AllocError>
+        ensures { (docs : List TableRow) → IsGoodAfter (J.accepts check.now) docs (doc_of row.now)
+            → is_made_of check.now docs self.old
+            → OnOk result (is_made_of check.now (docs ++ doc_of row.now ∷ []) self.new) };
+}
+
+/// Nothing is made of rows that are only tested.
+#[derive(Drop)]
+struct Nothing;
+
+impl<J: TestsRows> GathersRows<J> for Nothing {
+    ghost is_made_of = { λ _ _ _. Unit {0} };
+
+    fn gather(&mut self, _alloc: Global, _row: &Row, _check: &J) -> Result<(), AllocError> {
+        Ok(())
     }
 }
 
@@ -147,16 +173,38 @@ pub(crate) fn judge<J: TestsRows>(
     }
 }
 
-/// Reads the whole table, and tests each row. One row is held at a time, besides the names and keys of those before it;
-/// each takes the time of a logarithm of their number.
-pub(crate) fn survey<S: Alter, J: TestsRows>(
+/// Takes one more row, unless something is wrong with it or one before it.
+fn go_on<J: TestsRows, G: GathersRows<J>>(
+    alloc: Global,
+    gathered: &mut G,
+    verdict: &Result<(), OpenError>,
+    row: &Row,
+    check: &J,
+) -> Result<(), AllocError>
+    ensures { (docs : List TableRow) → (IsOk verdict.now
+        → IsGoodAfter (J.accepts check.now) docs (doc_of row.now))
+        → (IsOk verdict.now → G.is_made_of check.now docs gathered.old) → OnOk result
+        (IsOk verdict.now → G.is_made_of check.now (docs ++ doc_of row.now ∷ []) gathered.new) }
+{
+    if verdict.is_err() {
+        return Ok(());
+    }
+    gathered.gather(alloc, row, check)
+}
+
+/// Reads the whole table, tests each row, and gathers the rows until one is bad. One row is held at a time, besides the
+/// names and keys of those before it; each takes the time of a logarithm of their number.
+pub(crate) fn survey_into<S: Alter, J: TestsRows, G: GathersRows<J>>(
     alloc: Global,
     conn: &mut Connection<S>,
     check: &J,
+    gathered: &mut G,
 ) -> Result<(), OpenError>
-    ensures read { HasCleanDisk (state S.Store conn.new)
-        → OnOk result (PassesOpening (J.accepts check.now) (state S.Store conn.old)
-        (state S.Store conn.new)) }
+    ensures read { HasCleanDisk (state S.Store conn.new) → G.is_made_of check.now [] gathered.old
+        → OnOk result ((docs : List TableRow)
+        × Reads (state S.Store conn.old) (state S.Store conn.new) docs
+        × AreGood (J.accepts check.now) docs
+        × G.is_made_of check.now docs gathered.new) }
     ensures refused { HasCleanDisk (state S.Store conn.new)
         → IfErr result (λ e. RefusesOpening (J.accepts check.now) (state S.Store conn.old)
         (state S.Store conn.new) e) }
@@ -182,7 +230,29 @@ pub(crate) fn survey<S: Alter, J: TestsRows>(
             Ok(now) => now,
             Err(_) => return Err(OpenError::Memory),
         };
+        if go_on(alloc, gathered, &verdict, row, check).is_err() {
+            return Err(OpenError::Memory);
+        }
         last = place_in(row);
     }
     Err(OpenError::Database)
+}
+
+/// Reads the whole table, and tests each row.
+pub(crate) fn survey<S: Alter, J: TestsRows>(
+    alloc: Global,
+    conn: &mut Connection<S>,
+    check: &J,
+) -> Result<(), OpenError>
+    ensures read { HasCleanDisk (state S.Store conn.new)
+        → OnOk result (PassesOpening (J.accepts check.now) (state S.Store conn.old)
+        (state S.Store conn.new)) }
+    ensures refused { HasCleanDisk (state S.Store conn.new)
+        → IfErr result (λ e. RefusesOpening (J.accepts check.now) (state S.Store conn.old)
+        (state S.Store conn.new) e) }
+    ensures kept { HasCleanDisk (state S.Store conn.new) → IsSettled (state S.Store conn.old)
+        → OnErr result (KeepsAll (state S.Store conn.old) (state S.Store conn.new)) }
+    ensures crash { AddsNothing (state S.Store conn.old) (state S.Store conn.new) }
+{
+    survey_into::<S, J, Nothing>(alloc, conn, check, &mut Nothing)
 }

@@ -8,6 +8,7 @@ pub mod laws;
 mod names;
 mod opening;
 mod own;
+pub mod pages;
 mod renewal;
 mod row;
 mod sql;

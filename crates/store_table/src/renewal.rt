@@ -1,6 +1,6 @@
 //! Rows under old keys, which get their current keys.
 
-ghost use Rattle.std.specs.Prelude.{◌≡◌, ◌++◌, ◌∷◌, [], false, List, Option, None, option_map, find, IfOk, IfErr, IsOk, MatchResult, Ok, Err, OnOk, OnErr};
+ghost use Rattle.std.specs.Prelude.{◌≡◌, ◌++◌, ◌∷◌, [], false, List, Option, None, option_map, find, IfOk, IfErr, Ok, Err, OnOk, OnErr};
 ghost use Rattle.store_table.specs.Cells.{doc_of};
 ghost use Rattle.sqlite.specs.Held.{state};
 ghost use Rattle.sqlite.specs.State.{HasCleanDisk, Survives, IsLive, Shows as Sees};
@@ -12,14 +12,13 @@ ghost use Rattle.store_table.specs.Beside.{SparesOthers};
 ghost use Rattle.store_table.specs.Renewal.{HasPlaces, AcceptsOnce, IsOwn, AreRenewals, Renewed, Unrenewed, HasRekeyed, MayPut, MayRenew, RenewsOld, PassesOnce};
 ghost use Rattle.store_table.specs.Keys.{PutsKeys};
 
-use crate::check::{Own, RowCheck, TestsRows, judge, survey};
+use crate::check::{GathersRows, Own, RowCheck, TestsRows, survey, survey_into};
 use crate::opening::{OpenError, bytes_at, place_in, refusal};
 use crate::row::NewKey;
-use crate::sql;
 use crate::statements::rekey_all;
 use sqlite::{Alter, Connection, Error, Row};
 use std::alloc::{AllocError, Global};
-use std::collections::{BTreeMap, BTreeSet};
+use std::collections::BTreeMap;
 
 /// Puts the place of a row under its key and its collection, and returns the place that was there.
 pub(crate) fn meet_place(
@@ -100,38 +99,6 @@ impl Renewals {
     }
 }
 
-impl Renewals {
-    /// Takes one more row, unless something is wrong with it or one before it.
-    fn go_on<C: RowCheck>(
-        &mut self,
-        alloc: Global,
-        verdict: &Result<(), OpenError>,
-        row: &Row,
-        check: &C,
-    ) -> Result<(), AllocError>
-        ensures { (docs : List TableRow) → (IsOk verdict.now
-            → IsGoodAfter (AcceptsOnce (C.renews check.now)) docs (doc_of row.now))
-            → (IsOk verdict.now → AreRenewals (IsOwn (C.renews check.now)) (C.renews check.now) docs self.old)
-            → OnOk result (IsOk verdict.now → AreRenewals (IsOwn (C.renews check.now)) (C.renews check.now)
-            (docs ++ doc_of row.now ∷ []) self.new) }
-    {
-        if verdict.is_err() {
-            return Ok(());
-        }
-        self.take(alloc, row, check)
-    }
-}
-
-/// What is reported after all rows were read.
-fn ended(verdict: Result<(), OpenError>, renewals: Renewals) -> Result<Renewals, OpenError>
-    ensures { MatchResult verdict (λ _. result ≡ Ok renewals) (λ e. result ≡ Err e) }
-{
-    match verdict {
-        Ok(()) => Ok(renewals),
-        Err(error) => Err(error),
-    }
-}
-
 /// The test of a row under its own key or the one from before.
 #[derive(Drop)]
 struct Once<'a, C: RowCheck> {
@@ -145,6 +112,16 @@ impl<C: RowCheck> TestsRows for Once<'_, C> {
 
     fn accepts_row(&self, coll: &[u8], idkey: &[u8], body: &[u8]) -> Result<bool, AllocError> {
         Ok(self.check.renewed(coll, idkey, body)?.is_some())
+    }
+}
+
+impl<'a, C: RowCheck> GathersRows<Once<'a, C>> for Renewals {
+    ghost use Rattle.store_table.specs.Renewal.{AreRenewals, IsOwn};
+
+    ghost is_made_of = { λ once docs r. AreRenewals (IsOwn (C.renews once.check.now)) (C.renews once.check.now) docs r };
+
+    fn gather(&mut self, alloc: Global, row: &Row, check: &Once<'a, C>) -> Result<(), AllocError> {
+        self.take(alloc, row, check.check)
     }
 }
 
@@ -167,31 +144,9 @@ pub(crate) fn survey_old<S: Alter, C: RowCheck>(
         → OnErr result (KeepsAll (state S.Store conn.old) (state S.Store conn.new)) }
     ensures crash { AddsNothing (state S.Store conn.old) (state S.Store conn.new) }
 {
-    let mut rows = match conn.query(sql::ALL_ROWS, &[]) {
-        Ok(rows) => rows,
-        Err(Error::SqlInputError(_)) => return Err(OpenError::NotAStore),
-        Err(error) => return Err(refusal(error)),
-    };
-    let mut seen = BTreeSet::new(alloc);
     let mut renewals = Renewals::new(alloc);
-    let mut last = 0;
-    let mut verdict = Ok(());
-    'rows: for _ in 0..u64::MAX {
-        let row = match rows.next() {
-            Ok(Some(row)) => row,
-            Ok(None) => return ended(verdict, renewals),
-            Err(error) => return Err(refusal(error)),
-        };
-        verdict = match judge(alloc, &mut seen, last, verdict, row, &Once { check }) {
-            Ok(now) => now,
-            Err(_) => return Err(OpenError::Memory),
-        };
-        if renewals.go_on(alloc, &verdict, row, check).is_err() {
-            return Err(OpenError::Memory);
-        }
-        last = place_in(row);
-    }
-    Err(OpenError::Database)
+    survey_into(alloc, conn, &Once { check }, &mut renewals)?;
+    Ok(renewals)
 }
 
 /// Puts the keys at their places, in one transaction.

@@ -19,7 +19,7 @@ use crate::names::Names;
 use crate::opening::{OpenError, bytes_at, place_in, prepare};
 use crate::own::{EveryRow, is_own};
 use crate::row::{Found, NewRow};
-use crate::visiting::{Visit, VisitPlaced, visit_placed, visit_values};
+use crate::visiting::{Bodies, PlacedBodies, Visit, VisitPlaced, visit_rows};
 use crate::{sql, statements, whole};
 use sqlite::types::ValueRef;
 use sqlite::{Alter, Connection, Row};
@@ -313,7 +313,7 @@ impl<S: Alter + Drop> Table<S> {
             failed: false,
             alloc: self.alloc,
         };
-        let ended = visit_values(&mut self.conn, sql::NAMES, &[], &mut visitor)?;
+        let ended = visit_rows::<S, Names, Bodies>(&mut self.conn, sql::NAMES, &[], &mut visitor)?;
         let Names {
             names,
             failed,
@@ -338,7 +338,7 @@ impl<S: Alter + Drop> Table<S> {
             (table_state S.Store self.new) result }
         ensures crash { AddsNothing (table_state S.Store self.old) (table_state S.Store self.new) }
     {
-        let all = visit_values(
+        let all = visit_rows::<S, V, Bodies>(
             &mut self.conn,
             sql::BODIES,
             &[ValueRef::Text(coll.as_bytes())],
@@ -361,7 +361,7 @@ impl<S: Alter + Drop> Table<S> {
             (table_state S.Store self.new) result }
         ensures crash { AddsNothing (table_state S.Store self.old) (table_state S.Store self.new) }
     {
-        let all = visit_placed(
+        let all = visit_rows::<S, V, PlacedBodies>(
             &mut self.conn,
             sql::PLACED_BODIES,
             &[ValueRef::Text(coll.as_bytes())],

@@ -5,7 +5,7 @@ ghost use Rattle.bson_base.specs.Answer.{result_map};
 ghost use Rattle.bson_model.specs.View.{content, view};
 ghost use Rattle.store_update.specs.Answer.{lent, viewed_document};
 ghost use Rattle.store_update.specs.Plan.{change_of, path_of, plan_of};
-ghost use Rattle.store_update.specs.Update.{Tells, changed, found, is_left_out, is_of_id, moved, renamed, step_made, updated};
+ghost use Rattle.store_update.specs.Update.{Tells, altered, changed, found, is_left_out, is_of_id, made, moved, renamed, step_made, updated};
 
 use crate::alter::altered;
 use crate::error::UpdateError;
@@ -84,6 +84,20 @@ pub fn found<'a>(value: Option<&'a Bson>, path: &[String]) -> Result<Option<&'a 
     }
 }
 
+/// The document in which an operation is done at a path. The operation is let go here, by a call.
+fn done_at(
+    alloc: Global,
+    document: Document,
+    path: &[String],
+    operation: Operation,
+) -> Result<Document, UpdateError>
+    ensures { Tells (altered (made (change_of operation)) (path_of path.now) (content document)) (viewed_document result) }
+{
+    let made = altered(alloc, document, path, &operation);
+    drop(operation);
+    made
+}
+
 /// The value is taken out at the path and put at the other one, if there is any.
 fn moved(
     alloc: Global,
@@ -94,12 +108,16 @@ fn moved(
 ) -> Result<Document, UpdateError>
     ensures { Tells (moved (path_of path.now) (path_of to.now) (option_map view value) (content document)) (viewed_document result) }
 {
-    match value {
-        Some(value) => {
-            let document = altered(alloc, document, path, &Operation::Unset)?;
-            altered(alloc, document, to, &Operation::Set(value))
+    let Some(value) = value else {
+        return Ok(document);
+    };
+    let put = Operation::Set(value);
+    match done_at(alloc, document, path, Operation::Unset) {
+        Ok(document) => done_at(alloc, document, to, put),
+        Err(stop) => {
+            drop(put);
+            Err(stop)
         }
-        None => Ok(document),
     }
 }
 

@@ -54,32 +54,33 @@ impl Bson {
 fn write_value(alloc: Global, value: Bson, mode: Mode) -> Result<Value, Error>
     ensures { WritesForm data_of result (write mode (view value)) }
 {
-    match value {
-        Bson::Double(double) => write_double(alloc, double),
+    let written = match value {
+        Bson::Double(double) => return write_double(alloc, double),
         Bson::String(text) => Ok(Value::String(text)),
         Bson::Array(items) => Ok(Value::Array(write_items(alloc, items, mode)?)),
         Bson::Document(document) => Ok(Value::Object(write_members(alloc, document, mode)?)),
         Bson::Boolean(truth) => Ok(Value::Bool(truth)),
         Bson::Null => Ok(Value::Null),
-        Bson::RegularExpression(regex) => Ok(write_regex(alloc, regex)?),
-        Bson::JavaScriptCode(code) => Ok(wrapped_text(alloc, "$code", code)?),
+        Bson::RegularExpression(regex) => write_regex(alloc, regex),
+        Bson::JavaScriptCode(code) => wrapped_text(alloc, "$code", code),
         Bson::JavaScriptCodeWithScope(code) => {
             let scope = write_members(alloc, code.scope, mode)?;
-            Ok(with_scope(alloc, code.code, scope)?)
+            with_scope(alloc, code.code, scope)
         }
-        Bson::Int32(number) => Ok(write_i32(alloc, number, mode)?),
-        Bson::Int64(number) => Ok(write_i64(alloc, number, mode)?),
-        Bson::Timestamp(timestamp) => Ok(write_timestamp(alloc, timestamp)?),
-        Bson::Binary(binary) => Ok(write_binary(alloc, binary)?),
-        Bson::ObjectId(id) => Ok(write_id(alloc, id)?),
-        Bson::DateTime(moment) => Ok(write_date(alloc, moment, mode)?),
-        Bson::Symbol(text) => Ok(wrapped_text(alloc, "$symbol", text)?),
-        Bson::Decimal128(decimal) => Ok(write_decimal(alloc, decimal)?),
-        Bson::Undefined => Ok(wrapped(alloc, "$undefined", Value::Bool(true))?),
-        Bson::MaxKey => Ok(wrapped(alloc, "$maxKey", Value::from(1u32))?),
-        Bson::MinKey => Ok(wrapped(alloc, "$minKey", Value::from(1u32))?),
-        Bson::DbPointer(pointer) => Ok(write_pointer(alloc, pointer)?),
-    }
+        Bson::Int32(number) => write_i32(alloc, number, mode),
+        Bson::Int64(number) => write_i64(alloc, number, mode),
+        Bson::Timestamp(timestamp) => write_timestamp(alloc, timestamp),
+        Bson::Binary(binary) => write_binary(alloc, binary),
+        Bson::ObjectId(id) => write_id(alloc, id),
+        Bson::DateTime(moment) => write_date(alloc, moment, mode),
+        Bson::Symbol(text) => wrapped_text(alloc, "$symbol", text),
+        Bson::Decimal128(decimal) => write_decimal(alloc, decimal),
+        Bson::Undefined => wrapped(alloc, "$undefined", Value::Bool(true)),
+        Bson::MaxKey => wrapped(alloc, "$maxKey", Value::from(1u32)),
+        Bson::MinKey => wrapped(alloc, "$minKey", Value::from(1u32)),
+        Bson::DbPointer(pointer) => write_pointer(alloc, pointer),
+    };
+    Ok(written?)
 }
 
 /// The trees of an array's elements, in their order. The errors are those of `write_value`.

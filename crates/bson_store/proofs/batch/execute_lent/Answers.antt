@@ -1,5 +1,5 @@
 use Rattle.std.proofs.Common.{refl, string_bytes}
-use Rattle.store_filter.specs.Filters.{filter_of, path_of}
+use Rattle.store_question.specs.Filters.{filter_of, path_of}
 use Rattle.bson_model.specs.View.{view}
 use Rattle.store_model.specs.Reading.{ReadsStream}
 use Rattle.store_model.specs.State as model

@@ -1,7 +1,7 @@
 use Rattle.std.proofs.Common.{Ok, Err}
 use Rattle.std.proofs.lemmas.Result.{err_from_is_err_and}
 use Rattle.store_table.specs.Moves.{FindsRow}
-use Rattle.store_index.specs.Table.{indexed_state as table_state}
+use Rattle.bson_store.specs.Table.{indexed_state as table_state}
 use Rattle.bson_store.specs.Calls.{store_state}
 use Rattle.bson_store.proofs.MoveLemmas.{moved}
 use Rattle.bson_store.proofs.EditLemmas.{finds_ok, finds_err}

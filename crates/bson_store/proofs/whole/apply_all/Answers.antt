@@ -5,7 +5,7 @@ use Rattle.bson_store.specs.Calls.{store_state}
 use Rattle.bson_store.proofs.MoveLemmas.{moved, moved_twice}
 use Rattle.bson_store.specs.Drafting.{BeginsDraft, MakesDrafted}
 use Rattle.bson_store.specs.Whole.{DraftsAll, EditsAll}
-use Rattle.store_index.proofs.WholeLemmas.{kept_stay, kept_then}
+use Rattle.bson_store.proofs.IndexWholeLemmas.{kept_stay, kept_then}
 use Rattle.bson_store.proofs.WholeLemmas.{all_done, all_drafted, done_leaves, none_begun, none_done, one_refused, read_leaves, refused_leaves}
 use Rattle.bson_store.proofs.whole.apply_all.Goals as goal
 

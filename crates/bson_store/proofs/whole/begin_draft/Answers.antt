@@ -1,7 +1,7 @@
 use Rattle.std.proofs.Common.{◌≡◌, Ok, Err, w64, to_z, of_z, arith}
 use Rattle.std.proofs.lemmas.Int.{ints}
 use Rattle.store_table.specs.Change.{FindsLast}
-use Rattle.store_index.specs.Table.{indexed_state as table_state}
+use Rattle.bson_store.specs.Table.{indexed_state as table_state}
 use Rattle.bson_store.specs.Calls.{store_state}
 use Rattle.bson_store.proofs.MoveLemmas.{moved}
 use Rattle.bson_store.proofs.WholeLemmas.{begun, not_begun}

@@ -1,6 +1,6 @@
 use Rattle.std.proofs.Common.{map}
 use Rattle.std.specs.Prelude.{string_bytes}
-use Rattle.cli_words.specs.declared.lines.UsageError.TheVariants.{Usage}
+use Rattle.cli_commands.specs.declared.lines.UsageError.TheVariants.{Usage}
 use Rattle.bson_store_cli.proofs.ServeLemmas.{complaint_reported}
 use Rattle.bson_store_cli.proofs.commands.serve_words.Goals as goal
 

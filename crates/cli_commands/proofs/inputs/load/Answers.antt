@@ -2,7 +2,7 @@ use Rattle.std.proofs.Common.{refl, []}
 use Rattle.bson_base.specs.Device.{Feed}
 use Rattle.bson_store.specs.Calls.{store_state}
 use Rattle.store_model.specs.Reading.{ReadsTrees}
-use Rattle.cli_words.specs.declared.call.Call.TheVariants as words
+use Rattle.cli_commands.specs.declared.call.Call.TheVariants as words
 use Rattle.cli_commands.specs.Commands.{AsksFor}
 use Rattle.std.proofs.lemmas.Result.{err_from_is_err_and}
 use Rattle.bson_store.proofs.CrashLemmas.{survives_itself}

@@ -1,6 +1,6 @@
 use Rattle.std.proofs.Common.{◌∙◌, ap, arith}
 use Rattle.std.specs.Prelude.{string_bytes}
-use Rattle.cli_words.specs.Lines.{line}
+use Rattle.cli_commands.specs.Lines.{line}
 use Rattle.cli_commands.proofs.PrintLemmas.{next_passed}
 use Rattle.cli_commands.proofs.printing.print_names.Goals as goal
 

@@ -1,6 +1,6 @@
 use Rattle.std.specs.Prelude.{string_bytes}
 use Rattle.std.proofs.Common.{take, map}
-use Rattle.cli_words.specs.Lines.{line}
+use Rattle.cli_commands.specs.Lines.{line}
 use Rattle.cli_commands.proofs.PrintLemmas.{FirstPassed}
 use Rattle.cli_commands.proofs.printing.print_names.Given as goal
 

@@ -2,7 +2,7 @@ use Rattle.std.proofs.Common.{Ok, Err, refl, subst}
 use Rattle.bson_base.specs.Device.{Feed, Tally}
 use Rattle.sqlite.specs.State.{State}
 use Rattle.bson_store.specs.Calls.{store_state}
-use Rattle.cli_words.specs.Lines.{complaint_line, refusal_line}
+use Rattle.cli_commands.specs.Lines.{complaint_line, refusal_line}
 use Rattle.cli_commands.specs.Execute.{streams}
 use Rattle.cli_commands.specs.Outcome.{HasOutcome}
 use Rattle.cli_commands.specs.declared.stop.Failure.{Failure}

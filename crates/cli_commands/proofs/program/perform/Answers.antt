@@ -5,12 +5,12 @@ use Rattle.bson_model.specs.View.{view}
 use Rattle.bson_store.specs.Calls.{store_state}
 use Rattle.bson_store.specs.Questions.{as_list, as_names}
 use Rattle.bson_store.specs.Refusals as store
-use Rattle.store_filter.specs.Filters.{filter_of}
+use Rattle.store_question.specs.Filters.{filter_of}
 use Rattle.store_model.specs.Reading as model_reading
 use Rattle.store_model.specs.State as model
 use Rattle.store_model.specs.declared.error.ErrorKind.TheVariants.{Reader, Writer}
-use Rattle.cli_words.specs.Words.{Takes}
-use Rattle.cli_words.specs.declared.call.Call.TheVariants as words
+use Rattle.cli_commands.specs.Words.{Takes}
+use Rattle.cli_commands.specs.declared.call.Call.TheVariants as words
 use Rattle.cli_commands.specs.Answers as answers
 use Rattle.cli_commands.specs.Commands.{AsksFor, IsCommandOf, IsIdText, IsOfStream}
 use Rattle.cli_commands.specs.Execute.{IsFailure}

@@ -1,10 +1,10 @@
 use Rattle.std.proofs.Common.{map, string_bytes, Err}
 use Rattle.std.proofs.lemmas.Result.{err_from_is_err_and}
-use Rattle.cli_words.specs.Filters.{AnswersFilter}
-use Rattle.cli_words.specs.Texts.{AnswersId, AnswersText}
-use Rattle.cli_words.specs.declared.call.Call.TheVariants as words
-use Rattle.cli_words.specs.declared.lines.UsageError.TheVariants as complaints
-use Rattle.cli_words.specs.declared.texts.TextError.TheVariants.{Unreadable}
+use Rattle.cli_commands.specs.Filters.{AnswersFilter}
+use Rattle.cli_commands.specs.Texts.{AnswersId, AnswersText}
+use Rattle.cli_commands.specs.declared.call.Call.TheVariants as words
+use Rattle.cli_commands.specs.declared.lines.UsageError.TheVariants as complaints
+use Rattle.cli_commands.specs.declared.word_texts.TextError.TheVariants.{Unreadable}
 use Rattle.cli_commands.proofs.WordLemmas.{get_texts, has_id, no_filter, no_id, no_json, no_json_last, some_texts, stops}
 use Rattle.cli_commands.proofs.request.request_of.Goals as goal
 

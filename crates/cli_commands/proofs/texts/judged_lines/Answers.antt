@@ -4,7 +4,7 @@ use Rattle.std.proofs.lemmas.Iterator.Splits.{YieldsList-from_slice_split}
 use Rattle.std.proofs.lemmas.Result.{err_from_is_err_and}
 use Rattle.std.specs.Slice.Iter.{split_done, split_rest}
 use Rattle.store_documents.specs.Loading.{HasTaken}
-use Rattle.cli_words.specs.Inputs.{HaveTrees, lines_in}
+use Rattle.cli_commands.specs.Inputs.{HaveTrees, lines_in}
 use Rattle.cli_commands.proofs.LineLemmas.{cut_at, front_more, length-shown, shown, stops_here, trees_more}
 use Rattle.cli_commands.proofs.texts.judged_lines.Goals as goal
 

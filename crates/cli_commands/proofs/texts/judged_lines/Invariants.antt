@@ -1,7 +1,7 @@
 use Rattle.std.proofs.Common.{◌≡◌, List, length, take}
 use Rattle.serde_json.specs.Data.{Data}
 use Rattle.store_documents.specs.Loading.{HasTaken}
-use Rattle.cli_words.specs.Inputs.{HaveTrees, lines_in}
+use Rattle.cli_commands.specs.Inputs.{HaveTrees, lines_in}
 use Rattle.cli_commands.proofs.LineLemmas.{shown}
 use Rattle.cli_commands.proofs.texts.judged_lines.Given as goal
 

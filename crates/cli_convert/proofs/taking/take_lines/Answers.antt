@@ -1,7 +1,7 @@
 use Rattle.std.proofs.Common.{Bool, Ok, Err, subst}
 use Rattle.std.proofs.lemmas.Result.{err_from_is_err_and}
 use Rattle.bson_base.specs.Device.{Feed}
-use Rattle.cli_lines.specs.Lines.{waiting}
+use Rattle.cli_convert.specs.LineReader.{waiting}
 use Rattle.cli_convert.specs.Lines.{TakesNext}
 use Rattle.cli_convert.proofs.TakeLemmas.{begun, can_go_on, ended, nothing_read, went_on}
 use Rattle.cli_convert.proofs.taking.take_lines.Goals as goal

@@ -1,5 +1,5 @@
 use Rattle.bson_base.specs.Device.{CanFail}
-use Rattle.cli_lines.specs.Lines.{waiting}
+use Rattle.cli_convert.specs.LineReader.{waiting}
 use Rattle.cli_convert.proofs.TakeLemmas.{SoFar}
 use Rattle.cli_convert.proofs.taking.take_lines.Given as goal
 

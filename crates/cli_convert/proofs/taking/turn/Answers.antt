@@ -1,7 +1,7 @@
 use Rattle.std.proofs.Common.{Ok, subst}
 use Rattle.bson_base.specs.Device.{Feed}
-use Rattle.cli_lines.specs.Lines.{ReadsNext}
-use Rattle.cli_lines.specs.declared.lines.Next.{Next}
+use Rattle.cli_convert.specs.LineReader.{ReadsNext}
+use Rattle.cli_convert.specs.declared.line_reader.Next.{Next}
 use Rattle.cli_convert.proofs.TakeLemmas.{whole_taken}
 use Rattle.cli_convert.proofs.taking.turn.Goals as goal
 

@@ -1,6 +1,6 @@
 use Rattle.std.proofs.Common.{IsTrue, subst}
-use Rattle.store_pages.specs.Snapshot.{is_clean_of}
-use Rattle.store_pages.proofs.RootLemmas.{some_then}
+use Rattle.store_table.specs.Snapshot.{is_clean_of}
+use Rattle.store_table.proofs.RootLemmas.{some_then}
 use Rattle.store_asked.specs.Reads.{pages_under}
 use Rattle.fallowtime_commands.proofs.LookLemmas.{no_doubt, was_clean}
 use Rattle.fallowtime_commands.proofs.looking.look_up.Goals as goal

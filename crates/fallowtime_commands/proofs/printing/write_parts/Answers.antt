@@ -1,6 +1,6 @@
 use Rattle.std.proofs.Common.{◌∙◌, arith}
 use Rattle.std.proofs.lemmas.Result.{err_from_is_err_and}
-use Rattle.cli_words.proofs.PartLemmas.{parts_more, parts_begun}
+use Rattle.cli_commands.proofs.PartLemmas.{parts_more, parts_begun}
 use Rattle.fallowtime_commands.proofs.printing.write_parts.Goals as goal
 
 pub returns-in_err-write_all-clause-err : goal.returns-in_err-write_all-clause-err

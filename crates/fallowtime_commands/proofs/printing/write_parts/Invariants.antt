@@ -1,6 +1,6 @@
 use Rattle.std.proofs.Common.{◌≡◌, take}
 use Rattle.std.specs.Io.KnownBytes.{Appends}
-use Rattle.cli_words.specs.Lines.{concatenation}
+use Rattle.cli_commands.specs.Lines.{concatenation}
 use Rattle.fallowtime_commands.proofs.printing.write_parts.Given as goal
 
 abbrev pub invariant-loop-part : goal.invariant-loop-part

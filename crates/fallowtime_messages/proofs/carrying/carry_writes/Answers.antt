@@ -3,7 +3,7 @@ use Rattle.std.proofs.lemmas.Result.{err_from_is_err_and}
 use Rattle.bson_store.specs.Calls.{store_state}
 use Rattle.fallowtime_messages.specs.Done.{DoesAll}
 use Rattle.fallowtime_messages.specs.Outcomes.{CarriesOrStarts}
-use Rattle.fallowtime_plans.specs.declared.asked.Plan.TheVariants as plan
+use Rattle.fallowtime_statements.specs.declared.plans.asked.Plan.TheVariants as plan
 use Rattle.fallowtime_messages.proofs.OutcomeLemmas.{all_written, some_written}
 use Rattle.fallowtime_messages.proofs.carrying.carry_writes.Goals as goal
 

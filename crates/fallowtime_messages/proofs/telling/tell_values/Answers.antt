@@ -1,6 +1,6 @@
 use Rattle.std.proofs.Common.{map}
 use Rattle.bson_model.specs.View.{view}
-use Rattle.store_distinct.specs.Counted.{value_in}
+use Rattle.store_pipeline.specs.Counted.{value_in}
 use Rattle.fallowtime_messages.proofs.OutcomeLemmas.{values_told}
 use Rattle.fallowtime_messages.proofs.telling.tell_values.Goals as goal
 

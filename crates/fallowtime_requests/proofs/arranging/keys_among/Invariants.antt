@@ -1,6 +1,6 @@
 use Rattle.std.proofs.Common.{◌≡◌, [], drop}
 use Rattle.json.specs.Value.{members_view}
-use Rattle.store_sorted.specs.Bodies.{keys_of}
+use Rattle.store_pipeline.specs.Bodies.{keys_of}
 use Rattle.fallowtime_requests.specs.Orders.{keys_behind}
 use Rattle.fallowtime_requests.proofs.arranging.keys_among.Given as goal
 

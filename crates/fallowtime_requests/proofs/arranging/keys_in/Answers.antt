@@ -1,6 +1,6 @@
 use Rattle.std.proofs.Common.{◌≡◌, ◌⊎◌, Some, None, sym, subst}
 use Rattle.std.specs.Prelude.{MatchResult}
-use Rattle.store_sorted.specs.Bodies.{keys_of}
+use Rattle.store_pipeline.specs.Bodies.{keys_of}
 use Rattle.fallowtime_requests.specs.Orders.{keys_under}
 use Rattle.fallowtime_requests.specs.declared.stop.Stop.TheVariants.{Memory, Words}
 use Rattle.fallowtime_requests.specs.declared.unread.Unread.TheVariants as unread

@@ -1,5 +1,5 @@
 use Rattle.std.proofs.Common.{sym, ap, ◌∙◌}
-use Rattle.store_sorted.specs.Bodies.{keys_of}
+use Rattle.store_pipeline.specs.Bodies.{keys_of}
 use Rattle.fallowtime_requests.specs.Arranging.{text_in}
 use Rattle.fallowtime_requests.specs.Plain.{are_plainly}
 use Rattle.fallowtime_requests.proofs.PlainLemmas.{unplain}

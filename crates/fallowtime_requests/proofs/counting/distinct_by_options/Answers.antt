@@ -4,7 +4,7 @@ use Rattle.fallowtime_requests.specs.Requests.{Asks}
 use Rattle.fallowtime_requests.specs.declared.reading.Layout.{Layout}
 use Rattle.fallowtime_requests.specs.declared.request.Request.{Request}
 use Rattle.fallowtime_requests.specs.declared.request.Request.TheVariants as request
-use Rattle.fallowtime_texts.specs.declared.made.IdMaker.{IdMaker}
+use Rattle.cli_convert.specs.declared.made.IdMaker.{IdMaker}
 use Rattle.fallowtime_words.specs.declared.command.Command.TheVariants as command
 use Rattle.fallowtime_requests.proofs.counting.distinct_by_options.Goals as goal
 

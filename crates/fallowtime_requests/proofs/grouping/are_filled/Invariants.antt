@@ -1,6 +1,6 @@
 use Rattle.std.proofs.Common.{◌≡◌, drop}
 use Rattle.std.specs.List.{list_all}
-use Rattle.store_filter.specs.Filters.{path_of}
+use Rattle.store_question.specs.Filters.{path_of}
 use Rattle.fallowtime_requests.specs.Staging.{is_filled}
 use Rattle.fallowtime_requests.proofs.grouping.are_filled.Given as goal
 

@@ -1,5 +1,5 @@
 use Rattle.std.proofs.Common.{◌≡◌, drop}
-use Rattle.store_fields.specs.Views.{paths_of}
+use Rattle.store_pipeline.specs.Views.{paths_of}
 use Rattle.fallowtime_requests.specs.Plain.{are_plain}
 use Rattle.fallowtime_requests.proofs.plain.are_plain.Given as goal
 

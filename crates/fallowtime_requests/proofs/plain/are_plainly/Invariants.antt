@@ -1,5 +1,5 @@
 use Rattle.std.proofs.Common.{◌≡◌, drop}
-use Rattle.store_sorted.specs.Bodies.{keys_of}
+use Rattle.store_pipeline.specs.Bodies.{keys_of}
 use Rattle.fallowtime_requests.specs.Plain.{are_plainly}
 use Rattle.fallowtime_requests.proofs.plain.are_plainly.Given as goal
 

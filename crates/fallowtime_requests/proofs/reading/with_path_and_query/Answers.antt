@@ -1,6 +1,6 @@
 use Rattle.std.proofs.Common.{◌∷◌, [], arith, inl, inr, refl, sym}
 use Rattle.std.proofs.lemmas.Result.{err_from_is_err_and}
-use Rattle.store_filter.specs.Filters.{path_of}
+use Rattle.store_question.specs.Filters.{path_of}
 use Rattle.fallowtime_words.specs.declared.table.Argument.TheVariants.{Collection, IndexPath, Query}
 use Rattle.fallowtime_requests.specs.Inputs.{seen}
 use Rattle.fallowtime_requests.specs.Reading.{IsUnread}

@@ -1,6 +1,6 @@
 use Rattle.std.proofs.Common.{arith, inl, refl, sym, false}
 use Rattle.std.proofs.lemmas.Result.{err_from_is_err_and}
-use Rattle.store_update_read.specs.Outcome.{plans_of}
+use Rattle.store_question_read.specs.UpdateOutcome.{plans_of}
 use Rattle.fallowtime_requests.specs.Inputs.{seen}
 use Rattle.fallowtime_requests.specs.Reading.{IsUnread}
 use Rattle.fallowtime_requests.specs.Requests.{NameQueryUpdateAndMany}

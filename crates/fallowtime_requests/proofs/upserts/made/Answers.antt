@@ -1,7 +1,7 @@
 use Rattle.std.specs.Prelude.{option_map}
 use Rattle.bson_model.specs.View.{content, view}
-use Rattle.store_update_read.specs.Outcome.{plans_of}
-use Rattle.store_update_read.specs.Seed.{fixed_by}
+use Rattle.store_question_read.specs.UpdateOutcome.{plans_of}
+use Rattle.store_question_read.specs.Seed.{fixed_by}
 use Rattle.fallowtime_requests.specs.Upserts.{made_by}
 use Rattle.fallowtime_requests.proofs.UpsertLemmas.{taken, told}
 use Rattle.fallowtime_requests.proofs.upserts.made.Goals as goal

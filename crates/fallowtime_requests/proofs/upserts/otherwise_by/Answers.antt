@@ -1,4 +1,4 @@
-use Rattle.store_update_read.specs.Seed.{fixed_by}
+use Rattle.store_question_read.specs.Seed.{fixed_by}
 use Rattle.fallowtime_requests.specs.Inputs.{seen}
 use Rattle.fallowtime_requests.proofs.UpsertLemmas.{otherwise_keeps, otherwise_made}
 use Rattle.fallowtime_requests.proofs.upserts.otherwise_by.Goals as goal

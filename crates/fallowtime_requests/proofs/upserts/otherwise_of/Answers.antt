@@ -1,6 +1,6 @@
 use Rattle.std.proofs.Common.{refl}
 use Rattle.bson_model.specs.View.{content}
-use Rattle.store_update_read.specs.Seed.{fixed_by}
+use Rattle.store_question_read.specs.Seed.{fixed_by}
 use Rattle.fallowtime_requests.proofs.UpsertLemmas.{unmade}
 use Rattle.fallowtime_requests.proofs.upserts.otherwise_of.Goals as goal
 

@@ -1,5 +1,5 @@
 use Rattle.std.proofs.lemmas.Result.{err_from_is_err_and}
-use Rattle.store_filter.specs.Filters.{filter_of}
+use Rattle.store_question.specs.Filters.{filter_of}
 use Rattle.store_asked.specs.declared.answering.Answering.{Answering}
 use Rattle.store_question.specs.Reads.{form_of}
 use Rattle.store_asked.proofs.AskLemmas.{all_taken, none_taken}

@@ -1,6 +1,6 @@
 use Rattle.std.proofs.Common.{[], ◌∷◌, ◌++◌, sym, subst}
-use Rattle.store_sorted.proofs.PlaceLemmas.{zip_more}
-use Rattle.store_sorted.specs.Bodies.{AreBodies, IsBody}
+use Rattle.store_pipeline.proofs.PlaceLemmas.{zip_more}
+use Rattle.store_pipeline.specs.Bodies.{AreBodies, IsBody}
 use Rattle.store_asked.proofs.gathering.add_body.Goals as goal
 
 pub returns : goal.returns

@@ -1,7 +1,7 @@
 use Rattle.std.proofs.Common.{◌==◌, ◌∙◌, ap, sym, subst}
-use Rattle.store_sorted.proofs.SortLemmas.{no_keys}
-use Rattle.store_sorted.specs.Bodies.{AreBodies, keys_of}
-use Rattle.store_sorted.specs.Order.{Sorts, cut}
+use Rattle.store_pipeline.proofs.SortLemmas.{no_keys}
+use Rattle.store_pipeline.specs.Bodies.{AreBodies, keys_of}
+use Rattle.store_pipeline.specs.Order.{Sorts, cut}
 use Rattle.store_asked.proofs.GatherLemmas.{sorted_part, whole_arranged}
 use Rattle.store_asked.proofs.gathering.part_of.Goals as goal
 

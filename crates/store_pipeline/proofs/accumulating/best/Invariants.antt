@@ -1,7 +1,7 @@
 use Rattle.std.proofs.Common.{◌≡◌, drop, map, not, None}
 use Rattle.std.specs.List.{filter}
 use Rattle.bson_model.specs.View.{view}
-use Rattle.store_sorted.specs.Order.{best}
+use Rattle.store_pipeline.specs.Order.{best}
 use Rattle.store_update.specs.Answer.{lent}
 use Rattle.store_pipeline.proofs.accumulating.best.Given as goal
 use Rattle.store_pipeline.specs.Groups.{is_null}

@@ -3,7 +3,7 @@ use Rattle.std.proofs.lemmas.Result.{err_from_is_err_and}
 use Rattle.bson_base.specs.Value.{member, no_members}
 use Rattle.bson_model.specs.View.{content, view}
 use Rattle.store_model.specs.State.{id_key}
-use Rattle.store_sorted.specs.Bodies.{AreLent}
+use Rattle.store_pipeline.specs.Bodies.{AreLent}
 use Rattle.store_pipeline.proofs.FieldLemmas.{all_fields, field_on, fields_begin, no_field}
 use Rattle.store_pipeline.proofs.grouping.document_of.Goals as goal
 use Rattle.store_pipeline.specs.Grouped.{key_of}

@@ -3,7 +3,7 @@ use Rattle.bson_base.specs.Value.{document, member, no_members}
 use Rattle.bson_model.specs.View.{content}
 use Rattle.store_model.specs.Reading.{Documents}
 use Rattle.store_model.specs.State.{id_key}
-use Rattle.store_sorted.specs.Bodies.{AreLent}
+use Rattle.store_pipeline.specs.Bodies.{AreLent}
 use Rattle.store_pipeline.proofs.grouping.document_of.Given as goal
 use Rattle.store_pipeline.specs.Faithful.{IsFaithful}
 use Rattle.store_pipeline.specs.Grouped.{key_of}

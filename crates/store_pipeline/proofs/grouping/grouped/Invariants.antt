@@ -1,6 +1,6 @@
 use Rattle.std.proofs.Common.{take}
 use Rattle.store_model.specs.Reading.{Documents}
-use Rattle.store_sorted.specs.Bodies.{AreBodies}
+use Rattle.store_pipeline.specs.Bodies.{AreBodies}
 use Rattle.store_pipeline.proofs.grouping.grouped.Given as goal
 use Rattle.store_pipeline.specs.Grouped.{AreGrouped}
 

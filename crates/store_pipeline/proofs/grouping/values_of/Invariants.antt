@@ -1,6 +1,6 @@
 use Rattle.std.proofs.Common.{take}
 use Rattle.store_model.specs.Reading.{Documents}
-use Rattle.store_sorted.specs.Bodies.{AreLent}
+use Rattle.store_pipeline.specs.Bodies.{AreLent}
 use Rattle.store_pipeline.proofs.grouping.values_of.Given as goal
 use Rattle.store_pipeline.specs.Groups.{values_for}
 use Rattle.store_pipeline.specs.Taken.{AreTrees}

@@ -1,4 +1,4 @@
-use Rattle.store_sorted.proofs.BodyLemmas.{body_envelope, viewed}
+use Rattle.store_pipeline.proofs.BodyLemmas.{body_envelope, viewed}
 use Rattle.store_pipeline.proofs.matching.answers_it.Goals as goal
 
 pub returns-in_default : goal.returns-in_default

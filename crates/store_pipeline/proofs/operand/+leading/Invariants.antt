@@ -1,7 +1,7 @@
 use Rattle.std.proofs.Common.{◌+◌, ◌*◌, [], length}
 use Rattle.bson_raw.specs.View.{bytes_of, left_of}
-use Rattle.store_distinct.proofs.WalkLemmas.{AddsLeft}
-use Rattle.store_filter.specs.Filters.{path_of}
+use Rattle.store_pipeline.proofs.WalkLemmas.{AddsLeft}
+use Rattle.store_question.specs.Filters.{path_of}
 use Rattle.store_pipeline.proofs.operand.+leading.Given as goal
 use Rattle.store_pipeline.specs.Operands.{led_to}
 use Rattle.store_pipeline.specs.Taken.{through}

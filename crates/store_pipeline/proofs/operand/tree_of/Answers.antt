@@ -1,5 +1,5 @@
 use Rattle.std.proofs.Common.{[], ◌∷◌, refl}
-use Rattle.store_distinct.proofs.WalkLemmas.{adds_one}
+use Rattle.store_pipeline.proofs.WalkLemmas.{adds_one}
 use Rattle.store_pipeline.proofs.LedLemmas.{tree_alone}
 use Rattle.store_pipeline.proofs.operand.tree_of.Goals as goal
 

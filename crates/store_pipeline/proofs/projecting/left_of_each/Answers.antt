@@ -2,9 +2,9 @@ use Rattle.std.proofs.Common.{◌+◌, ℕ, List, Vec, take, subst, sym, arith}
 use Rattle.std.specs.List.{AllZip}
 use Rattle.std.specs.declared.alloc.Global.{Global}
 use Rattle.bson_base.specs.Value.{Members, no_members}
-use Rattle.store_fields.specs.Views.{left_of}
-use Rattle.store_fields.specs.declared.fields.Fields.{Fields}
-use Rattle.store_sorted.specs.Bodies.{IsBody, OfBody}
+use Rattle.store_pipeline.specs.Views.{left_of}
+use Rattle.store_pipeline.specs.declared.sorted.fields.Fields.{Fields}
+use Rattle.store_pipeline.specs.Bodies.{IsBody, OfBody}
 use Rattle.store_pipeline.proofs.EachLemmas.{made_all, made_more, zip_mapped}
 use Rattle.store_pipeline.proofs.projecting.left_of_each.Goals as goal
 

@@ -1,8 +1,8 @@
 use Rattle.std.proofs.Common.{take}
 use Rattle.std.specs.List.{AllZip}
-use Rattle.store_fields.specs.Views.{left_of}
+use Rattle.store_pipeline.specs.Views.{left_of}
 use Rattle.store_model.specs.Reading.{Documents}
-use Rattle.store_sorted.specs.Bodies.{AreBodies, IsBody}
+use Rattle.store_pipeline.specs.Bodies.{AreBodies, IsBody}
 use Rattle.store_pipeline.proofs.projecting.left_of_each.Given as goal
 
 abbrev pub invariant-loop-body : goal.invariant-loop-body

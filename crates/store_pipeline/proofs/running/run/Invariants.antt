@@ -1,5 +1,5 @@
 use Rattle.store_model.specs.Reading.{Documents}
-use Rattle.store_sorted.specs.Bodies.{AreBodies}
+use Rattle.store_pipeline.specs.Bodies.{AreBodies}
 use Rattle.store_pipeline.proofs.RunLemmas.{Reaches}
 use Rattle.store_pipeline.proofs.running.run.Given as goal
 

@@ -1,7 +1,7 @@
 use Rattle.std.proofs.Common.{◌+◌, ℕ, List, Vec, Bor, take, refl, subst, sym, arith}
 use Rattle.std.specs.declared.alloc.Global.{Global}
 use Rattle.bson_base.specs.Value.{Members, no_members}
-use Rattle.store_sorted.specs.Bodies.{AreBodies, IsBody}
+use Rattle.store_pipeline.specs.Bodies.{AreBodies, IsBody}
 use Rattle.store_pipeline.proofs.EachLemmas.{made_all, made_more}
 use Rattle.store_pipeline.proofs.sorting.copies_of.Goals as goal
 

@@ -3,7 +3,7 @@ use Rattle.std.proofs.lemmas.Result.{err_from_is_err_and}
 use Rattle.std.specs.List.{flat_map}
 use Rattle.std.specs.declared.alloc.Global.{Global}
 use Rattle.bson_base.specs.Value.{no_members}
-use Rattle.store_sorted.specs.Bodies.{IsBody}
+use Rattle.store_pipeline.specs.Bodies.{IsBody}
 use Rattle.store_pipeline.specs.Unwound.{unwound}
 use Rattle.store_pipeline.proofs.CountLemmas.{bodies_long}
 use Rattle.store_pipeline.proofs.WrittenLemmas.{AreWritten, body_at, made_of, pieces_more, pieces_stop}

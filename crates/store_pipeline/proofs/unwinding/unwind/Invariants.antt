@@ -1,7 +1,7 @@
 use Rattle.std.proofs.Common.{take}
 use Rattle.std.specs.List.{flat_map}
 use Rattle.store_model.specs.Reading.{Documents}
-use Rattle.store_sorted.specs.Bodies.{AreBodies}
+use Rattle.store_pipeline.specs.Bodies.{AreBodies}
 use Rattle.store_pipeline.specs.Unwound.{unwound}
 use Rattle.store_pipeline.proofs.WrittenLemmas.{AreWritten}
 use Rattle.store_pipeline.proofs.unwinding.unwind.Given as goal

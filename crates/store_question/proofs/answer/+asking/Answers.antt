@@ -7,7 +7,7 @@ use Rattle.std.specs.declared.alloc.Global.{Global}
 use Rattle.bson_base.specs.Value.{Value}
 use Rattle.bson_raw.specs.View.{bytes_of, left_of, parts_of}
 use Rattle.bson_raw.specs.Walk.{steps_from}
-use Rattle.store_filter.specs.Filters.{path_of}
+use Rattle.store_question.specs.Filters.{path_of}
 use Rattle.store_model.specs.Filter.{under_places}
 use Rattle.store_question.specs.declared.question.Question.{Question, the_lemmas}
 use Rattle.store_question.specs.Asked.{Asked, at, whole, has_item, leaves, begins, begins_so, text_in, Answers, AtMember, AtPlace, Along, HasItem, Through}

@@ -1,6 +1,6 @@
 use Rattle.std.proofs.Common.{rules, ◌≡◌, Some, sym, subst}
 use Rattle.bson_base.specs.Value.{document}
-use Rattle.store_filter.specs.Filters.{path_of}
+use Rattle.store_question.specs.Filters.{path_of}
 use Rattle.store_question.specs.Asked.{Answers, Asked}
 use Rattle.store_question.specs.Reads.{Form, Reads, at_form, form_of}
 use Rattle.store_question.specs.declared.question.Question.{Question, the_lemmas}

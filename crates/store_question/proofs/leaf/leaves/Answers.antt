@@ -2,7 +2,7 @@ use Rattle.std.proofs.Common.{Option, ap, sym, ◌∙◌}
 use Rattle.std.proofs.lemmas.Int.{to_z-of_z}
 use Rattle.std.specs.Prelude.{option_and_then}
 use Rattle.bson_base.specs.Value.{Value}
-use Rattle.bson_numbers.specs.Wholes.{part_of}
+use Rattle.bson_order.specs.Wholes.{part_of}
 use Rattle.store_question.specs.Asked.{leaves_so}
 use Rattle.store_question.proofs.ValueLemmas.{found_spells, shown_some}
 use Rattle.store_question.proofs.leaf.leaves.Goals as goal

@@ -1,5 +1,5 @@
 use Rattle.std.proofs.Common.{◌≡◌, map, take}
-use Rattle.store_filter.specs.Filters.{path_of}
+use Rattle.store_question.specs.Filters.{path_of}
 use Rattle.store_question_read.proofs.made.owned.Given as goal
 
 abbrev pub invariant-loop-piece : goal.invariant-loop-piece

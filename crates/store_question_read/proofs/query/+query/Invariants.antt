@@ -10,5 +10,5 @@ invariant-entries-loop-key l = SoFar l.questions.items (entries (members_view l.
 abbrev pub invariant-tests-loop-key : goal.invariant-tests-loop-key
 invariant-tests-loop-key l = SoFar l.questions.items (tests (map (λ x. x.now) l.path) (members_view l.members)) (tests (map (λ x. x.now) l.path) (members_view (drop l.key-index l.members)))
 
-abbrev pub invariant-each-loop-item : goal.invariant-each-loop-item
-invariant-each-loop-item l = SoFar l.questions.items (each (map (λ x. x.now) l.path) l.key l.listed (items_view l.items)) (each (map (λ x. x.now) l.path) l.key l.listed (items_view (drop l.item-index l.items)))
+abbrev pub invariant-items-loop-item : goal.invariant-items-loop-item
+invariant-items-loop-item l = SoFar l.questions.items (each (map (λ x. x.now) l.path) l.key l.listed (items_view l.items)) (each (map (λ x. x.now) l.path) l.key l.listed (items_view (drop l.item-index l.items)))

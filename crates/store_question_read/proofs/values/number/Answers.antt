@@ -1,7 +1,7 @@
 use Rattle.std.proofs.Common.{Ok, Err, SFits, w64, rules, sym, subst}
 use Rattle.std.proofs.lemmas.Int.{to_z-of_z}
 use Rattle.json.specs.Value.{value_view}
-use Rattle.bson_numbers.specs.Wholes.{whole_of}
+use Rattle.bson_order.specs.Wholes.{whole_of}
 use Rattle.bson_raw.specs.Convert.{SpellsRawValue}
 use Rattle.bson_raw.specs.Raw.{RawValue}
 use Rattle.store_question_read.proofs.OnwardLemmas.{failed, given, leaves_by, not_given, onward}

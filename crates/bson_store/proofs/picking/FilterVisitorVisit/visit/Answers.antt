@@ -1,4 +1,4 @@
-use Rattle.store_filter.specs.Filters.{filter_of}
+use Rattle.store_question.specs.Filters.{filter_of}
 use Rattle.bson_store.proofs.SelectLemmas.{gave_more, gave_fault}
 use Rattle.bson_store.proofs.picking.FilterVisitorVisit.visit.Goals as goal
 

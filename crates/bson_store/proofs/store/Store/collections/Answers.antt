@@ -1,6 +1,6 @@
 use Rattle.std.proofs.Common.{None, Ok, Err}
 use Rattle.store_table.specs.Moves.{Lists}
-use Rattle.store_index.specs.Table.{indexed_state as table_state}
+use Rattle.bson_store.specs.Table.{indexed_state as table_state}
 use Rattle.store_model.specs.State as model
 use Rattle.bson_store.specs.Calls.{Does, store_state}
 use Rattle.bson_store.specs.Questions.{as_names}

@@ -2,7 +2,7 @@ use Rattle.std.proofs.Common.{Ok, Err, refl, sym, subst}
 use Rattle.std.proofs.lemmas.Result.{err_from_is_err_and}
 use Rattle.sqlite.specs.Held.{Held, state}
 use Rattle.sqlite.specs.State.{Survives}
-use Rattle.store_index.specs.Table.{indexed_state as table_state}
+use Rattle.bson_store.specs.Table.{indexed_state as table_state}
 use Rattle.store_table.specs.Moves.{FindsNone, Moves, WasOpen}
 use Rattle.store_model.specs.Refusal.{refusal}
 use Rattle.store_model.specs.declared.error.ErrorKind.TheVariants.{BadName}

@@ -6,7 +6,7 @@ use Rattle.bson_store.specs.Calls.{store_state}
 use Rattle.bson_store.specs.Export.{SendsCollection}
 use Rattle.store_model.specs.Refusal.{refusal}
 use Rattle.bson_store.specs.declared.export.ExportVisitor.{ExportVisitor}
-use Rattle.store_index.specs.Table.{indexed_state as table_state}
+use Rattle.bson_store.specs.Table.{indexed_state as table_state}
 use Rattle.bson_store.proofs.MoveLemmas.{rests, moved}
 use Rattle.bson_store.proofs.DeviceLemmas.{of_failed, of_fault, of_sent}
 use Rattle.bson_store.proofs.ExportLemmas.{sends_none, all_sent, table_failed, writer_failed}

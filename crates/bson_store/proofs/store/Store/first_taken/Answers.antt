@@ -3,7 +3,7 @@ use Rattle.std.proofs.lemmas.Result.{err_from_is_err_and}
 use Rattle.std.proofs.lemmas.Result.{IfOk-weaker}
 use Rattle.sqlite.specs.State.{HasCleanDisk}
 use Rattle.store_table.specs.Moves.{FindsNone}
-use Rattle.store_index.specs.Table.{indexed_state as table_state}
+use Rattle.bson_store.specs.Table.{indexed_state as table_state}
 use Rattle.store_model.specs.declared.error.ErrorKind.TheVariants as kind
 use Rattle.bson_store.specs.Calls.{store_state}
 use Rattle.bson_store.specs.Many.{FindsTaken}

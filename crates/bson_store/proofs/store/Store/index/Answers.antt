@@ -1,6 +1,6 @@
 use Rattle.std.proofs.Common.{Ok, Err, refl}
 use Rattle.std.proofs.lemmas.Result.{err_from_is_err_and}
-use Rattle.store_index.specs.Table.{indexed_state as table_state}
+use Rattle.bson_store.specs.Table.{indexed_state as table_state}
 use Rattle.store_table.specs.Moves.{Keeps}
 use Rattle.store_model.specs.Refusal.{refusal}
 use Rattle.store_model.specs.declared.error.ErrorKind.TheVariants.{BadName}

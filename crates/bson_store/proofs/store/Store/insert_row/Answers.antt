@@ -7,7 +7,7 @@ use Rattle.bson_store.specs.Calls.{store_state, store_connection, Does, DoesRead
 use Rattle.bson_store.proofs.MoveLemmas.{moved}
 use Rattle.bson_store.proofs.ServeLemmas.{row_makes, written_fits}
 use Rattle.bson_store.proofs.CrashLemmas.{denied_leaves, accepted_leaves}
-use Rattle.store_index.specs.Table.{indexed_state as table_state}
+use Rattle.bson_store.specs.Table.{indexed_state as table_state}
 use Rattle.store_documents.specs.Names.{name_bytes}
 use Rattle.bson_store.proofs.ExitLemmas.{unfound_insert, duplicate_insert, put_moves, not_put_moves}
 use Rattle.bson_store.proofs.store.Store.insert_row.Goals as goal

@@ -1,6 +1,6 @@
 use Rattle.std.proofs.Common.{ap, ◌∙◌}
 use Rattle.sqlite.specs.Held.{state}
-use Rattle.store_index.specs.Table.{connection_of as table_connection, indexed_state as table_state}
+use Rattle.bson_store.specs.Table.{connection_of as table_connection, indexed_state as table_state}
 use Rattle.store_table.specs.declared.opening.OpenError.{OpenError}
 use Rattle.bson_store.specs.Refusals.{kind_of_opening}
 use Rattle.store_model.specs.Refusal.{refusal}

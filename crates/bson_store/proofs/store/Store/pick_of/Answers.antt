@@ -1,8 +1,8 @@
 use Rattle.std.proofs.Common.{Ok, Err, None, refl}
-use Rattle.store_filter.specs.Filters.{filter_of}
-use Rattle.store_index.specs.Fronts.{Passes}
-use Rattle.store_index.specs.Asking.{VisitsAsked}
-use Rattle.store_index.specs.Table.{indexed_state as table_state}
+use Rattle.store_question.specs.Filters.{filter_of}
+use Rattle.bson_store.specs.Fronts.{Passes}
+use Rattle.bson_store.specs.Asking.{VisitsAsked}
+use Rattle.bson_store.specs.Table.{indexed_state as table_state}
 use Rattle.store_documents.specs.Names.{name_bytes}
 use Rattle.bson_store.specs.Calls.{store_state}
 use Rattle.bson_store.specs.Questions.{PickedOf}

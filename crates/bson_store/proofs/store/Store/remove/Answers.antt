@@ -2,7 +2,7 @@ use Rattle.std.proofs.Common.{inr, refl, Ok, arith}
 use Rattle.std.proofs.lemmas.Result.{err_from_is_err_and}
 use Rattle.bson_store.specs.Calls.{store_state, Looks}
 use Rattle.bson_store.proofs.CrashLemmas.{accepted_leaves, changed_leaves, id_removes}
-use Rattle.store_index.specs.Table.{connection_of as table_connection, indexed_state as table_state}
+use Rattle.bson_store.specs.Table.{connection_of as table_connection, indexed_state as table_state}
 use Rattle.store_documents.specs.Names.{name_bytes}
 use Rattle.bson_model.specs.View.{view}
 use Rattle.store_model.specs.State as model

@@ -8,7 +8,7 @@ use Rattle.bson_store.specs.Calls.{store_state, store_connection, Does, DoesRead
 use Rattle.bson_store.proofs.MoveLemmas.{moved}
 use Rattle.bson_store.proofs.ServeLemmas.{written_fits}
 use Rattle.bson_store.proofs.CrashLemmas.{accepted_leaves, changed_leaves, row_replaces}
-use Rattle.store_index.specs.Table.{indexed_state as table_state}
+use Rattle.bson_store.specs.Table.{indexed_state as table_state}
 use Rattle.store_documents.specs.Names.{name_bytes}
 use Rattle.bson_store.proofs.ExitLemmas.{unfound_replace, none_replace, place_moves, not_place_moves}
 use Rattle.bson_store.proofs.store.Store.replace_row.Goals as goal

@@ -1,6 +1,6 @@
 use Rattle.std.proofs.Common.{Ok, Err, None, ap}
 use Rattle.bson_store.specs.Calls.{store_state}
-use Rattle.store_index.specs.Table.{indexed_state as table_state}
+use Rattle.bson_store.specs.Table.{indexed_state as table_state}
 use Rattle.store_documents.specs.Names.{name_bytes}
 use Rattle.bson_model.specs.View.{view}
 use Rattle.bson_store.specs.Calls.{Looks}

@@ -1,6 +1,6 @@
 use Rattle.std.proofs.Common.{Ok, Err, None, inr, refl, subst, sym}
 use Rattle.store_table.specs.Moves.{Visits}
-use Rattle.store_index.specs.Table.{indexed_state as table_state}
+use Rattle.bson_store.specs.Table.{indexed_state as table_state}
 use Rattle.store_documents.specs.Names.{name_bytes}
 use Rattle.store_model.specs.State.{IsName}
 use Rattle.bson_store.specs.Calls.{store_state}

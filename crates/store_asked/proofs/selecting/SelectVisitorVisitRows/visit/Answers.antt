@@ -1,8 +1,8 @@
 use Rattle.std.proofs.Common.{[], ◌∷◌, map, Some, sym, subst}
 use Rattle.std.proofs.lemmas.List.{map-append}
-use Rattle.store_filter.specs.Filters.{filter_of}
-use Rattle.store_pages.specs.Documents.{Doc}
-use Rattle.store_pages.specs.Rows.{doc_at}
+use Rattle.store_question.specs.Filters.{filter_of}
+use Rattle.store_table.specs.Documents.{Doc}
+use Rattle.store_table.specs.PageRows.{doc_at}
 use Rattle.bson_store.specs.Questions.{GivesPicked}
 use Rattle.bson_store.proofs.SelectLemmas.{gave_fault, gave_more}
 use Rattle.store_asked.proofs.selecting.SelectVisitorVisitRows.visit.Goals as goal

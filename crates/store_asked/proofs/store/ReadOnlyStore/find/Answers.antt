@@ -1,6 +1,6 @@
 use Rattle.std.proofs.Common.{ap, refl}
 use Rattle.std.proofs.lemmas.Result.{err_from_is_err_and}
-use Rattle.store_filter.specs.Filters.{filter_of}
+use Rattle.store_question.specs.Filters.{filter_of}
 use Rattle.store_model.specs.State as model
 use Rattle.bson_store.specs.Questions.{as_list}
 use Rattle.bson_store.proofs.ServeLemmas.{bad_name}

@@ -1,5 +1,5 @@
 use Rattle.std.proofs.Common.{◌≡◌, rules, Ok, Err, None, refl, subst}
-use Rattle.store_filter.specs.Filters.{filter_of}
+use Rattle.store_question.specs.Filters.{filter_of}
 use Rattle.store_documents.specs.Names.{name_bytes}
 use Rattle.bson_store.specs.Questions.{Picked}
 use Rattle.store_asked.specs.declared.selecting.SelectVisitor.{SelectVisitor}

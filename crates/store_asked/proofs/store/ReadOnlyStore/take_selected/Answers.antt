@@ -1,6 +1,6 @@
 use Rattle.std.proofs.Common.{inr, refl}
 use Rattle.std.proofs.lemmas.Result.{err_from_is_err_and}
-use Rattle.store_filter.specs.Filters.{filter_of}
+use Rattle.store_question.specs.Filters.{filter_of}
 use Rattle.store_documents.specs.Names.{name_bytes}
 use Rattle.store_asked.proofs.ReadLemmas.{picked_from}
 use Rattle.store_asked.proofs.store.ReadOnlyStore.take_selected.Goals as goal

@@ -1,7 +1,6 @@
-use Rattle.std.proofs.Common.{◌≡◌, ◌++◌, [], List, ℕ, Some, None, option_map, slice_get, find, append-nil, refl, sym, ap, subst, ◌∙◌, arith, rules, w64, to_z, of_z}
+use Rattle.std.proofs.Common.{◌≡◌, ◌++◌, List, ℕ, Some, None, option_map, slice_get, find, append-nil, refl, sym, ap, subst, ◌∙◌, arith, rules, w64, to_z, of_z}
 use Rattle.std.proofs.lemmas.Int.{to_z-of_z}
 use Rattle.sqlite.specs.Held.{state}
-use Rattle.store_table.specs.Moves.{body_if_in}
 use Rattle.store_table.specs.Rows.{is_at}
 use Rattle.store_table.proofs.ReadLemmas.{at_row, first_found}
 use Rattle.store_table.proofs.OthersLemmas.{still_others}

@@ -5,16 +5,16 @@ use Rattle.store_table.proofs.OthersLemmas.{still_others}
 use Rattle.store_table.proofs.TableLemmas.{stands_still, visits_refused}
 use Rattle.store_table.proofs.table.Table.visit_bodies.Goals as goal
 
-pub visit_values-requires : goal.visit_values-requires
-visit_values-requires g c = scan_asks
+pub visit_rows-requires : goal.visit_rows-requires
+visit_rows-requires g c = scan_asks
 
 pub returns-clause-moves : goal.returns-clause-moves
 returns-clause-moves g c clean =
     let old = state g.S.Store c.args.self.now.conn in
-    let new = state g.S.Store c.visit_values.new.conn in
+    let new = state g.S.Store c.visit_rows.new.conn in
     let u = (c.in_ok-all.ensures.read clean).unchanged in
-    let v = c.visit_values.new.visitor in (
-      omega (arith, clean, c.visit_values.ensures.crash.clean),
+    let v = c.visit_rows.new.visitor in (
+      omega (arith, clean, c.visit_rows.ensures.crash.clean),
       λ docs stands.
           let h = stands u.0.was_open in (
             docs,
@@ -22,7 +22,7 @@ returns-clause-moves g c clean =
             record {
               same = refl;
               whole = λ none all. whole_scan (g.V.Visit.took c.args.visitor.now) v c.args.coll.now old docs h new (rw c.as_bytes.ensures.value at (c.in_ok-all.ensures.whole clean none all));
-              some = λ none. some_scan (g.V.Visit.took c.args.visitor.now) v c.args.coll.now old docs h (rw c.as_bytes.ensures.value at (c.visit_values.ensures.some clean none));
+              some = λ none. some_scan (g.V.Visit.took c.args.visitor.now) v c.args.coll.now old docs h (rw c.as_bytes.ensures.value at (c.visit_rows.ensures.some clean none));
               faults = tt;
             },
             still_others old new u,
@@ -32,13 +32,13 @@ returns-clause-moves g c clean =
 pub returns-in_err-all-clause-moves : goal.returns-in_err-all-clause-moves
 returns-in_err-all-clause-moves g c clean =
     let old = state g.S.Store c.args.self.now.conn in
-    let new = state g.S.Store c.visit_values.new.conn in (
-      omega (arith, clean, c.visit_values.ensures.crash.clean),
+    let new = state g.S.Store c.visit_rows.new.conn in (
+      omega (arith, clean, c.visit_rows.ensures.crash.clean),
       λ docs stands. (
         docs,
         (λ still. let it = (c.in_err-all.ensures.read clean).refused still in it.1 docs (stands it.0)),
-        visits_refused (g.V.Visit.took c.args.visitor.now) c.args.visitor.now c.visit_values.new.visitor c.args.coll.now old docs stands c.from_residual.result c.in_err-all.field-0.0 c.from_residual.ensures.1
-            (λ none. rw c.as_bytes.ensures.value at (c.visit_values.ensures.some clean none)),
+        visits_refused (g.V.Visit.took c.args.visitor.now) c.args.visitor.now c.visit_rows.new.visitor c.args.coll.now old docs stands c.from_residual.result c.in_err-all.field-0.0 c.from_residual.ensures.1
+            (λ none. rw c.as_bytes.ensures.value at (c.visit_rows.ensures.some clean none)),
         (c.in_err-all.ensures.read clean).others docs stands,
       ),
     )

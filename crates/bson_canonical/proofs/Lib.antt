@@ -1,4 +1,0 @@
-mod AscentLemmas
-mod PayloadLemmas
-mod TurnLemmas
-mod ValueLemmas

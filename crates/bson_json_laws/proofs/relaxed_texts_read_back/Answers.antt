@@ -1,6 +1,0 @@
-use Rattle.bson_model.specs.declared.extjson.ser.Mode.TheVariants.{Relaxed}
-use Rattle.bson_json_laws.proofs.TextLemmas.{comes_back}
-use Rattle.bson_json_laws.proofs.relaxed_texts_read_back.Goals as goal
-
-pub returns : goal.returns
-returns c = comes_back Relaxed

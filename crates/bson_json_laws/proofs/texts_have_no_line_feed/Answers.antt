@@ -1,5 +1,0 @@
-use Rattle.bson_json_laws.proofs.UnbrokenLemmas.{text_unbroken}
-use Rattle.bson_json_laws.proofs.texts_have_no_line_feed.Goals as goal
-
-pub returns : goal.returns
-returns c = text_unbroken

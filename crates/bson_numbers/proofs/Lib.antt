@@ -1,4 +1,0 @@
-pub mod SizeLemmas
-pub mod DigitLemmas
-pub mod WholeLemmas
-pub mod DoubleLemmas

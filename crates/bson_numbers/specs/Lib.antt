@@ -1,4 +1,0 @@
-pub mod Line
-pub mod Digits
-pub mod Sizes
-pub mod Wholes

@@ -1,0 +1,12 @@
+use Rattle.std.proofs.Common.{ℕ, ℤ, List, drop}
+use Rattle.store_question.specs.Filters.{filter_of}
+use Rattle.bson_store.specs.Serving.{IsSelected}
+use Rattle.bson_store.specs.Find.{Finds, FindEach}
+use Rattle.bson_store.proofs.ServingLemmas.{IsBest}
+use Rattle.bson_store.proofs.indexed.indexes.Indexes.places_of_filter.Given as goal
+
+abbrev pub invariant-loop-index : goal.invariant-loop-index
+invariant-loop-index l = record {
+  best : IsBest l.self l.coll (IsSelected (filter_of l.filter)) l.best;
+  left : (p : ℤ) (b : List ℕ) → Finds l.self l.coll p b → FindEach (drop l.index-index l.self.list.items) l.coll p b;
+}

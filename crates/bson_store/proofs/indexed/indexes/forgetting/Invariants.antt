@@ -1,0 +1,15 @@
+use Rattle.std.proofs.Common.{◌≡◌, ◌≢◌, ◌++◌, ℕ, ℤ, List, length}
+use Rattle.std.specs.Vec.Iter.{into_iter_items, into_iter_len}
+use Rattle.bson_store.specs.Find.{FindEach, MissEach, kinds_of}
+use Rattle.bson_store.proofs.indexed.indexes.forgetting.Given as goal
+
+abbrev pub invariant-loop-index : goal.invariant-loop-index
+invariant-loop-index l = record {
+  kept : (c : List ℕ) (p : ℤ) (b : List ℕ) → p ≢ l.place → FindEach l.fn.list.items c p b → FindEach (into_iter_items l.index-iterator) c p b × FindEach l.new.items c p b;
+  missed : (p : ℤ) (b : List ℕ) → MissEach l.fn.list.items p b → MissEach (into_iter_items l.index-iterator) p b × MissEach l.new.items p b;
+  gone : MissEach l.new.items l.place l.body;
+  same : kinds_of (l.new.items ++ into_iter_items l.index-iterator) ≡ kinds_of l.fn.list.items;
+  long : length (into_iter_items l.index-iterator) ≡ into_iter_len l.index-iterator;
+  next : goal.iterator-loop-index.can_next l.index-iterator;
+  finite : goal.iterator-loop-index.is_finite l.index-iterator;
+}

@@ -1,4 +1,0 @@
-mod OpenLemmas
-mod RefusalLemmas
-mod KeepLemmas
-mod SendLemmas

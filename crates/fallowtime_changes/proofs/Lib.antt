@@ -1,4 +1,0 @@
-mod WayLemmas
-pub mod WriteLemmas
-pub mod TurnLemmas
-pub mod ExitLemmas

@@ -1,0 +1,14 @@
+use Rattle.bson_store.specs.Calls.{store_state}
+use Rattle.bson_store.proofs.MoveLemmas.{moved}
+use Rattle.fallowtime_commands.proofs.RequestLemmas.{insert_answered, insert_refused}
+use Rattle.fallowtime_commands.proofs.session.drafting.insert.Goals as goal
+
+pub returns-in-Ok-clause-moves : goal.returns-in-Ok-clause-moves
+returns-in-Ok-clause-moves g c =
+    moved (store_state g.S.Store c.args.store.now) (store_state g.S.Store c.put_in.new.store) _ _ c.in-Ok.ensures.moves
+    (λ docs after h. insert_answered c.args.name.now c.args.id.now c.args.document.now c.args.edits.now.draft c.put_in.new.edits.draft docs after c.inserted.result c.inserted.ensures h)
+
+pub returns-in-Err-clause-moves : goal.returns-in-Err-clause-moves
+returns-in-Err-clause-moves g c =
+    moved (store_state g.S.Store c.args.store.now) (store_state g.S.Store c.put_in.new.store) _ _ c.in-Err.ensures.moves
+    (λ docs after h. insert_refused c.args.name.now c.args.id.now c.args.document.now c.args.edits.now.draft c.put_in.new.edits.draft docs after c.in-Err.error h)

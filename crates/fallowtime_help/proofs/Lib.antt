@@ -1,7 +1,0 @@
-mod DistanceLemmas
-mod NameLemmas
-mod NearLemmas
-mod OverviewLemmas
-mod PadLemmas
-mod TopicLemmas
-mod WordLemmas

@@ -1,5 +1,0 @@
-use Rattle.std.proofs.Common.{rules}
-use Rattle.fallowtime_help.proofs.help.command_help.Goals as goal
-
-pub returns : goal.returns
-returns c = (c.text_of.result.now, c.behind.result.now, search rules)

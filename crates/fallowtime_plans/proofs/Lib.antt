@@ -1,3 +1,0 @@
-pub mod PlanLemmas
-pub mod GivenLemmas
-pub mod WriteLemmas

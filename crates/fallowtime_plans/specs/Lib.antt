@@ -1,4 +1,0 @@
-pub mod Indexing
-pub mod Batches
-pub mod Told
-pub mod Plans

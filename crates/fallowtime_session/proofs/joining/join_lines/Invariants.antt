@@ -1,5 +1,0 @@
-use Rattle.fallowtime_session.proofs.JoinLemmas.{SoFar}
-use Rattle.fallowtime_session.proofs.joining.join_lines.Given as goal
-
-abbrev pub invariant-loop-before : goal.invariant-loop-before
-invariant-loop-before l = SoFar l.input l.rest l.joined l.before

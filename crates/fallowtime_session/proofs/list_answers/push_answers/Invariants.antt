@@ -1,5 +1,0 @@
-use Rattle.fallowtime_session.proofs.ListAnswerLemmas.{SoFar}
-use Rattle.fallowtime_session.proofs.list_answers.push_answers.Given as goal
-
-abbrev pub invariant-loop-index : goal.invariant-loop-index
-invariant-loop-index l = SoFar l.answers l.fn.line.items l.line.items l.index

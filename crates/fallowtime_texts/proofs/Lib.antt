@@ -1,4 +1,0 @@
-pub mod IdLemmas
-mod ReadLemmas
-mod StraightLemmas
-mod AddLemmas

@@ -1,4 +1,0 @@
-pub mod Ids
-pub mod Made
-pub mod Printed
-pub mod Lines

@@ -1,5 +1,0 @@
-use Rattle.store_distinct.proofs.TakeLemmas.{nothing_held}
-use Rattle.store_distinct.proofs.distinct.Distinct.new.Goals as goal
-
-pub returns-clause-holds : goal.returns-clause-holds
-returns-clause-holds c = nothing_held _ c.new.ensures.items

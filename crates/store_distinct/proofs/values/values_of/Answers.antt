@@ -1,7 +1,0 @@
-use Rattle.bson_base.specs.Value.{document}
-use Rattle.store_distinct.proofs.WalkLemmas.{first_added}
-use Rattle.store_distinct.proofs.values.values_of.Goals as goal
-use Rattle.store_sorted.proofs.BodyLemmas.{document_found}
-
-pub returns : goal.returns
-returns c = λ d is. first_added c.new-values.result.items c.led_to.new.values.items _ c.new-values.ensures.items (c.in_ok-led_to.ensures (document d) (document_found c.args.document d is))

@@ -1,5 +1,0 @@
-use Rattle.std.proofs.Common.{length}
-use Rattle.store_fields.proofs.texts.+meets.Given as goal
-
-abbrev pub decreases-meets : goal.decreases-meets
-decreases-meets l = length l.path.now

@@ -1,9 +1,0 @@
-use Rattle.std.proofs.Common.{◌≡◌, drop}
-use Rattle.std.specs.List.{list_any}
-use Rattle.store_fields.proofs.texts.meets_any.Given as goal
-use Rattle.store_filter.specs.Filters.{path_of}
-use Rattle.store_fields.specs.Texts.{meets}
-use Rattle.store_fields.specs.Views.{paths_of}
-
-abbrev pub invariant-loop-other : goal.invariant-loop-other
-invariant-loop-other l = list_any (meets (path_of l.path)) (paths_of l.others) ≡ list_any (meets (path_of l.path)) (paths_of (drop l.other-index l.others))

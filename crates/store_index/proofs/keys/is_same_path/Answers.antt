@@ -1,6 +1,0 @@
-use Rattle.std.proofs.Common.{sym, ◌∙◌}
-use Rattle.store_index.proofs.PathLemmas.{same_paths, paths_same}
-use Rattle.store_index.proofs.keys.is_same_path.Goals as goal
-
-pub returns : goal.returns
-returns c = (λ t. same_paths c.args.a.now c.args.b.now (sym c.eq.ensures ∙ t), λ e. c.eq.ensures ∙ paths_same c.args.a.now c.args.b.now e)

@@ -1,6 +1,0 @@
-use Rattle.std.proofs.Common.{rules}
-use Rattle.store_index.proofs.CodeLemmas.{date_result}
-use Rattle.store_index.proofs.parts.date_part.Goals as goal
-
-pub returns : goal.returns
-returns c = date_result c.timestamp_millis.result _ (search rules) c.timestamp_millis.ensures

@@ -1,5 +1,0 @@
-pub mod FrameLemmas
-pub mod DocumentLemmas
-pub mod RootLemmas
-pub mod ScanLemmas
-pub mod NameLemmas

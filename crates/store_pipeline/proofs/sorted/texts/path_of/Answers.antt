@@ -1,0 +1,8 @@
+use Rattle.store_pipeline.proofs.TextLemmas.{path_grows, path_whole}
+use Rattle.store_pipeline.proofs.sorted.texts.path_of.Goals as goal
+
+pub loop-part-preserved : goal.loop-part-preserved
+loop-part-preserved c = path_grows c.deref-part-items.result.now c.loop-part.part-index _ c.loop-part.path.items c.push.new.self.items c.in_ok-from_str.field-0 c.loop-part-test.true c.in_ok-push.ensures.items c.in_ok-from_str.ensures.ok c.loop-part.invariant
+
+pub returns : goal.returns
+returns c = path_whole c.in_ok-parts.parts.items _ c.loop-part.part-index _ _ c.deref-part-items.ensures.value c.loop-part-test.false c.in_ok-parts.ensures c.loop-part.invariant

@@ -1,7 +1,0 @@
-mod FrontLemmas
-mod ArmLemmas
-mod FilterLemmas
-mod PathLemmas
-mod AnswerLemmas
-mod SpanLemmas
-mod RangeLemmas

@@ -1,5 +1,0 @@
-use Rattle.store_question_front.proofs.PathLemmas.{SoFar}
-use Rattle.store_question_front.proofs.equal.arrays.Given as goal
-
-abbrev pub invariant-loop-keys : goal.invariant-loop-keys
-invariant-loop-keys l = SoFar l.path l.filters.items l.keys

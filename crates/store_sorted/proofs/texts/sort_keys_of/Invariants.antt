@@ -1,8 +1,0 @@
-use Rattle.std.proofs.Common.{map, take}
-use Rattle.std.specs.List.{AllZip}
-use Rattle.store_sorted.proofs.texts.sort_keys_of.Given as goal
-use Rattle.store_sorted.specs.Bodies.{keys_of}
-use Rattle.store_sorted.specs.Texts.{ReadsKey}
-
-abbrev pub invariant-loop-part : goal.invariant-loop-part
-invariant-loop-part l = AllZip ReadsKey (map (λ x. x.now) (take l.part-index l.part-items)) (keys_of l.keys.items)

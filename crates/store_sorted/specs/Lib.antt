@@ -1,4 +1,0 @@
-pub mod Order
-pub mod Bodies
-pub mod Held
-pub mod Texts

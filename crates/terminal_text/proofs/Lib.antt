@@ -1,2 +1,0 @@
-mod HarmlessLemmas
-mod WritingLemmas

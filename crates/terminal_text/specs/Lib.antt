@@ -1,2 +1,0 @@
-pub mod Terminal
-pub mod Writing
