@@ -1,7 +1,8 @@
 """Writes a stream of documents to standard output, the same bytes at each run.
 
-`documents.py orders COUNT`: orders of about 1 kB, with an array of documents; `documents.py small COUNT`: an `_id`, a text and a number.
-No value is a double, as a dump has none.
+`documents.py orders COUNT`: orders of about 1 kB, with an array of documents; `documents.py mixed COUNT`: the same, each with a decimal, a
+binary, a UUID, a timestamp and a regular expression beside; `documents.py small COUNT`: an `_id`, a text and a number. No value is a double,
+as a dump has none.
 """
 
 import struct
@@ -36,7 +37,7 @@ def line(number, n):
     ])
 
 
-def order(number):
+def order(number, further=()):
     return document([
         element(0x10, "_id", struct.pack("<i", number)),
         element(0x12, "order_number", struct.pack("<q", number)),
@@ -51,6 +52,22 @@ def order(number):
         element(0x04, "tag_numbers", array(0x10, [struct.pack("<i", number % 1000 + n) for n in range(6)])),
         element(0x0A, "cancelled", b""),
         element(0x02, "customer_name", text("Customer %d" % (number % 50))),
+        *further,
+    ])
+
+
+def binary(subtype, content):
+    return struct.pack("<iB", len(content), subtype) + content
+
+
+def mixed(number):
+    return order(number, [
+        # a decimal of two places: its digits, and an exponent of -2 above the bias
+        element(0x13, "total_price", struct.pack("<QQ", number * 137 % 10000000, (6176 - 2) << 49)),
+        element(0x05, "signature_hash", binary(0x00, bytes((number * 31 + n * 17) % 256 for n in range(32)))),
+        element(0x05, "shipment_uuid", binary(0x04, struct.pack(">QQ", number * 0x9E3779B97F4A7C15 % 2**64, number))),
+        element(0x11, "changed_at", struct.pack("<II", number % 1000, 1600000000 + number)),
+        element(0x0B, "label_pattern", b"^A-%06d\0i\0" % (number % 1000000)),
     ])
 
 
@@ -63,7 +80,7 @@ def small(number):
 
 
 def main():
-    make = {"orders": order, "small": small}[sys.argv[1]]
+    make = {"orders": order, "mixed": mixed, "small": small}[sys.argv[1]]
     for number in range(int(sys.argv[2])):
         sys.stdout.buffer.write(make(number))
 

@@ -10,8 +10,9 @@ mkdir -p out
 gcc -O2 -o out/baseline baseline.c $(pkg-config --cflags --libs libbson-1.0) -lsqlite3
 /usr/bin/python3 documents.py orders 2000 > out/orders2000.bson
 /usr/bin/python3 documents.py orders 20000 > out/orders20000.bson
+/usr/bin/python3 documents.py mixed 20000 > out/mixed20000.bson
 /usr/bin/python3 documents.py small 20000 > out/small20000.bson
 /usr/bin/python3 documents.py small 200000 > out/small200000.bson
 lscpu | grep -E '^(Model name|CPU\(s\)):'
 /usr/bin/python3 measure.py out "$rounds" bson_store=$program c=out/baseline "python=/usr/bin/python3 baseline.py" \
-    -- out/orders2000.bson out/orders20000.bson out/small20000.bson out/small200000.bson
+    -- out/orders2000.bson out/orders20000.bson out/mixed20000.bson out/small20000.bson out/small200000.bson

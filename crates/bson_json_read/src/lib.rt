@@ -8,6 +8,7 @@ pub mod laws;
 mod reading;
 mod texts;
 
+pub use bodies::read_wrapped;
 pub use error::{Error, Result};
 pub use json::Scratch;
 pub use reading::{bson_of, bson_of_text, document_of, document_of_text};

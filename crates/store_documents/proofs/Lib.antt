@@ -15,6 +15,7 @@ pub mod ManyLemmas
 pub mod AppendLemmas
 pub mod LoadLemmas
 pub mod KindLemmas
+mod AlikeLemmas
 mod WrapperLemmas
 mod MemberLemmas
 pub mod PlaceLemmas

@@ -1,6 +1,6 @@
 -- What trees of JSON with their members in the order of the text are read as: the tree with sorted members that they stand for is
 -- read so (JsonRead of bson_model).
-use Rattle.std.specs.Prelude.{◌≡◌, ℕ, List, Option, Some, Ok}
+use Rattle.std.specs.Prelude.{◌≡◌, ◌⊎◌, ℕ, List, Option, Some, Ok}
 use Rattle.std.specs.Borrow.{Bor}
 use Rattle.std.specs.declared.alloc.Global.{Global}
 use Rattle.json.specs.Json as json
@@ -14,8 +14,8 @@ use Rattle.serde_json.specs.Read.{of_json, of_items, of_members}
 use Rattle.store_documents.specs.Forms.{ShowPairs, pair_forms}
 use Rattle.bson_base.specs.Value.{Value, Items, Members}
 use Rattle.bson_model.specs.View.{members_of}
-use Rattle.bson_model.specs.JsonKeys.{Reserved}
-use Rattle.bson_model.specs.JsonRead.{read, read_items, read_members, read_wrapped}
+use Rattle.bson_model.specs.JsonKeys.{Reserved, of_date, of_double, of_max, of_min, of_pointer, of_timestamp, of_undefined}
+use Rattle.bson_model.specs.JsonRead.{read, read_items, read_members, read_wrapped, u32_of}
 
 abbrev pub ReadsJson : Json → Value → Type 0
 ReadsJson j v = (d : Data) × (of_json j ≡ Some d) × (read d ≡ Ok v)
@@ -26,6 +26,25 @@ ReadsItems js vs = (ds : sorted.Items) × (of_items js ≡ Some ds) × (read_ite
 -- the body of a wrapper with this key alone
 abbrev pub ReadsWrapped : Reserved → Json → Value → Type 0
 ReadsWrapped r j v = (d : Data) × (of_json j ≡ Some d) × (read_wrapped (Some r) d ≡ Ok v)
+
+-- bson_json_read reads the body under this key as JsonRead does its tree
+abbrev pub IsAlike : Reserved → Json → Type 0
+IsAlike of_double j = ⊥
+IsAlike of_timestamp j = ⊥
+IsAlike of_min j = ⊥
+IsAlike of_max j = ⊥
+IsAlike of_pointer j = ⊥
+IsAlike of_undefined j = ⊥
+IsAlike of_date (json.number t) = ⊥
+IsAlike r j = Unit {0}
+
+-- a whole number of 32 unsigned bits
+abbrev pub ReadsUnsigned : Json → ℕ → Type 0
+ReadsUnsigned j n = (d : Data) × (of_json j ≡ Some d) × (u32_of d ≡ Ok n)
+
+-- the members are these two bodies under these keys, in either order
+abbrev pub AreBodies : List ℕ → List ℕ → Json × Json → json.Members → Type 0
+AreBodies k l p js = (js ≡ json.member k p.0 (json.member l p.1 json.no_members)) ⊎ (js ≡ json.member l p.1 (json.member k p.0 json.no_members))
 
 -- the lent tree is this one
 abbrev pub IsTree : Bor (Tree Global) → Json → Type 0

@@ -105,7 +105,7 @@ fn read_object<'v, 'a>(
     if let [(key, value)] = members
         && is_reserved_key(*key)
     {
-        return wrapped(*key, value).ok_or(Unread::Unseen);
+        return wrapped(alloc, *key, value);
     }
     let pairs = pairs_of_members(alloc, members)?;
     if has_reserved(pairs.as_slice()) {
@@ -164,8 +164,8 @@ fn document_of(alloc: Global, value: &Value<'_>) -> Result<Document, Unread>
 /// tree with memory of its own is made. `scratch` is room that is kept from text to text.
 ///
 /// `Unseen` if it has to be read by that tree: if it can't be read, if an object has a key twice or more than 64 of
-/// them, if it has a wrapper other than `$numberInt`, `$numberLong`, `$oid` and `$date` with `$numberLong`, or a number
-/// that is no whole one of 64 bits. `Memory` if a growth was refused.
+/// them, if it has a wrapper for a double, a code with its scope, a pointer, undefined, or a least or greatest key, a
+/// date that is a number, or a number that is no whole one of 64 bits. `Memory` if a growth was refused.
 pub fn document_of_text(
     alloc: Global,
     text: &str,

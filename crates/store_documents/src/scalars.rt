@@ -1,20 +1,24 @@
 //! Values with nothing inside.
 
-ghost use Rattle.std.specs.Prelude.{◌≡◌, IfOk, IfSome};
+ghost use Rattle.std.specs.Prelude.{◌≡◌, codes, IfOk, IfSome, IsTrue, Some};
 ghost use Rattle.json.specs.Json as json;
 ghost use Rattle.json.specs.Print.{IsNumber};
-ghost use Rattle.json.specs.Value.{value_view};
-ghost use Rattle.bson_base.specs.Scalars.{id_bytes, millis_of};
-ghost use Rattle.bson_base.specs.Value.{date_time, int32, int64, object_id as id_value, scalar};
-ghost use Rattle.bson_model.specs.JsonKeys.{of_date, of_id, of_int, of_long};
+ghost use Rattle.json.specs.Tree.{HasNumbers};
+ghost use Rattle.json.specs.Value.{members_view, value_view};
+ghost use Rattle.serde_json.specs.View.{number_view};
+ghost use Rattle.bson_base.specs.Value.{scalar, timestamp as timestamp_of};
+ghost use Rattle.bson_model.specs.JsonKeys.{of_timestamp, reserved_of};
+ghost use Rattle.bson_model.specs.JsonRead.{u32_from};
+ghost use Rattle.bson_model.specs.JsonWrappers.{reserved_key};
 ghost use Rattle.bson_model.specs.View.{view};
-ghost use Rattle.store_documents.specs.Reads.{ReadsJson, ReadsWrapped};
+ghost use Rattle.store_documents.specs.Reads.{AreBodies, IsAlike, ReadsJson, ReadsUnsigned, ReadsWrapped};
 
 use crate::unread::Unread;
-use bson_model::extjson::de::{Wrapper, integer, read_int, read_long, wrapper_of};
-use bson_model::{Bson, DateTime, ObjectId};
+use bson_json_read::{Error, read_wrapped};
+use bson_model::extjson::de::{Wrapper, integer, wrapper_of};
+use bson_model::{Bson, Timestamp};
 use json::Value;
-use serde_json::Value as Tree;
+use serde_json::{Number, Value as Tree};
 use std::alloc::Global;
 
 /// The value of a number without a wrapper. `Unseen` if it is no whole number of 64 bits.
@@ -30,71 +34,105 @@ pub(crate) fn number(alloc: Global, text: &str) -> Result<Bson, Unread>
     }
 }
 
-/// The text that a tree is.
-fn text_in<'a>(value: &Value<'a>) -> Option<&'a str>
-    ensures { IfSome result (λ t. value_view value.now ≡ json.string t.now) }
+/// The number in 32 unsigned bits. None for a negative number, a larger one and any double.
+fn narrow(number: &Number) -> Option<u32>
+    ensures { result ≡ u32_from (number_view number.now) }
 {
-    match value {
-        Value::String(text) => Some(*text),
+    let whole = number.as_u64()?;
+    if whole <= u32::MAX as u64 {
+        Some(whole as u32)
+    } else {
+        None
+    }
+}
+
+/// The number of a JSON number that is whole and fits 32 unsigned bits. None for any other value.
+fn unsigned(alloc: Global, value: &Value<'_>) -> Option<u32>
+    ensures { IfSome result (λ n. HasNumbers (value_view value.now) → ReadsUnsigned (value_view value.now) n) }
+{
+    let Value::Number(text) = value else {
+        return None;
+    };
+    let Ok(Tree::Number(number)) = Tree::from_str(alloc, *text) else {
+        return None;
+    };
+    narrow(&number)
+}
+
+/// The values under `i` and under `t`, if these are the only keys, in either order.
+fn increment_and_time<'v, 'a>(
+    members: &'v [(&'a str, Value<'a>)],
+) -> Option<(&'v Value<'a>, &'v Value<'a>)>
+    ensures { IfSome result (λ p. AreBodies (codes "i") (codes "t") (value_view p.0.now, value_view p.1.now) (members_view members.now)) }
+{
+    match members {
+        [(first, one), (second, other)] => {
+            if *first == "i" && *second == "t" {
+                Some((one, other))
+            } else if *first == "t" && *second == "i" {
+                Some((other, one))
+            } else {
+                None
+            }
+        }
         _ => None,
     }
 }
 
-/// The value under this key alone.
-fn single<'v, 'a>(value: &'v Value<'a>, key: &str) -> Option<&'v Value<'a>>
-    ensures { IfSome result (λ v. value_view value.now ≡ json.object (json.member key.now (value_view v.now) json.no_members)) }
+/// The body of `$timestamp`: the increment and the seconds, whole numbers of 32 unsigned bits. None for any other form.
+fn timestamp(alloc: Global, value: &Value<'_>) -> Option<Timestamp>
+    ensures { IfSome result (λ t. HasNumbers (value_view value.now) → ReadsWrapped of_timestamp (value_view value.now) (scalar (timestamp_of t.time t.increment))) }
 {
     let Value::Object(members) = value else {
         return None;
     };
-    match members.as_slice() {
-        [(only, inside)] => { if *only == key { Some(inside) } else { None } }
-        _ => None,
+    let (increment, time) = increment_and_time(members.as_slice())?;
+    let increment = unsigned(alloc, increment)?;
+    let time = unsigned(alloc, time)?;
+    Some(Timestamp { time, increment })
+}
+
+/// Whether the body of a wrapper is read alike from its text and from its tree: not that of a double, as a store has few
+/// of them, and not numbers without a wrapper, which the two read in other ways.
+fn is_alike(wrapper: Wrapper, value: &Value<'_>) -> bool
+    ensures { IsTrue result → IsAlike (reserved_key wrapper) (value_view value.now) }
+{
+    match wrapper {
+        Wrapper::Oid | Wrapper::Symbol | Wrapper::RegularExpression => true,
+        Wrapper::NumberInt | Wrapper::NumberLong | Wrapper::NumberDecimal => true,
+        Wrapper::Binary | Wrapper::Uuid | Wrapper::Code => true,
+        Wrapper::Date => !matches!(value, Value::Number(_)),
+        _ => false,
     }
 }
 
-/// The body of `$oid`. None if it is no text of 24 hexadecimal digits.
-fn object_id(value: &Value<'_>) -> Option<ObjectId>
-    ensures { IfSome result (λ id. ReadsWrapped of_id (value_view value.now) (scalar (id_value (id_bytes id)))) }
+/// The value of a wrapper whose body is read alike. `Unseen` of any other, and if it can't be read.
+fn read_alike(alloc: Global, key: &str, wrapper: Wrapper, value: &Value<'_>) -> Result<Bson, Unread>
+    ensures { IfOk result (λ b. reserved_of key.now ≡ Some (reserved_key wrapper)
+        → ReadsWrapped (reserved_key wrapper) (value_view value.now) (view b)) }
 {
-    match ObjectId::parse_str(text_in(value)?) {
-        Ok(id) => Some(id),
-        Err(_) => None,
+    if !is_alike(wrapper, value) {
+        return Err(Unread::Unseen);
+    }
+    match read_wrapped(alloc, key, value) {
+        Ok(read) => Ok(read),
+        Err(Error::Memory) => Err(Unread::Memory),
+        Err(_) => Err(Unread::Unseen),
     }
 }
 
-/// The body of `$numberInt`. None if it is no text of a whole number in the range of 32 bits.
-fn int(value: &Value<'_>) -> Option<i32>
-    ensures { IfSome result (λ z. ReadsWrapped of_int (value_view value.now) (scalar (int32 z))) }
+/// The value of a wrapper with one key. `Unseen` if it has to be read by its tree, or can't be read. `Memory` if a growth
+/// was refused.
+pub(crate) fn wrapped(alloc: Global, key: &str, value: &Value<'_>) -> Result<Bson, Unread>
+    ensures { IfOk result (λ b. HasNumbers (value_view value.now)
+        → ReadsJson (json.object (json.member key.now (value_view value.now) json.no_members)) (view b)) }
 {
-    read_int(text_in(value)?)
-}
-
-/// The body of `$numberLong`. None if it is no text of a whole number in the range of 64 bits.
-fn long(value: &Value<'_>) -> Option<i64>
-    ensures { IfSome result (λ z. ReadsWrapped of_long (value_view value.now) (scalar (int64 z))) }
-{
-    read_long(text_in(value)?)
-}
-
-/// The body of `$date`, whose milliseconds since 1970 are the text under `$numberLong` alone. None for any other form,
-/// so for the date text of the relaxed form too.
-fn date(value: &Value<'_>) -> Option<DateTime>
-    ensures { IfSome result (λ d. ReadsWrapped of_date (value_view value.now) (scalar (date_time (millis_of d)))) }
-{
-    let number = read_long(text_in(single(value, "$numberLong")?)?)?;
-    Some(DateTime::from_millis(number))
-}
-
-/// The value of a wrapper with one key. `Unseen` of most kinds.
-pub(crate) fn wrapped(key: &str, value: &Value<'_>) -> Option<Bson>
-    ensures { IfSome result (λ b. ReadsJson (json.object (json.member key.now (value_view value.now) json.no_members)) (view b)) }
-{
-    match wrapper_of(key)? {
-        Wrapper::NumberInt => Some(Bson::Int32(int(value)?)),
-        Wrapper::NumberLong => Some(Bson::Int64(long(value)?)),
-        Wrapper::Date => Some(Bson::DateTime(date(value)?)),
-        Wrapper::Oid => Some(Bson::ObjectId(object_id(value)?)),
-        _ => None,
+    match wrapper_of(key) {
+        None => Err(Unread::Unseen),
+        Some(Wrapper::Timestamp) => match timestamp(alloc, value) {
+            None => Err(Unread::Unseen),
+            Some(moment) => Ok(Bson::Timestamp(moment)),
+        },
+        Some(wrapper) => read_alike(alloc, key, wrapper, value),
     }
 }
