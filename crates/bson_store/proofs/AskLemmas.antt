@@ -21,7 +21,7 @@ use Rattle.store_table.proofs.UniqueLemmas.{one_list}
 use Rattle.bson_store.specs.Asking.{Spares, VisitsAsked, VisitsPlaces}
 use Rattle.bson_store.specs.Kept.{FindsRows, HasKept}
 use Rattle.bson_store.proofs.KeepLemmas.{none_find}
-use Rattle.bson_store.proofs.IndexMoveLemmas.{rests}
+use Rattle.bson_store.proofs.MoveLemmas.{rests}
 use Rattle.bson_store.proofs.PlaceLemmas.{in_order}
 
 -- ---- what the indexes find

@@ -8,7 +8,7 @@ use Rattle.store_table.specs.Rows.{TableRow, HasRows, with_body_at}
 use Rattle.store_table.specs.declared.fault.Fault.{Fault}
 use Rattle.store_table.proofs.OthersLemmas.{shows_then}
 use Rattle.bson_store.specs.Changing.{Rewrites}
-use Rattle.bson_store.proofs.IndexMoveLemmas.{Relation, moved, moved_twice}
+use Rattle.bson_store.proofs.MoveLemmas.{Relation, moved, moved_twice}
 
 module _ (old mid new : State) (P : Relation) (one : Moves old mid P) (same : (docs after : List TableRow) → P docs after → after ≡ docs) where
   pub read_then_leaves : (change : List TableRow → List TableRow) → Survives old mid (λ _. ⊥) → Survives mid new (MayLeave change mid) → Survives old new (MayLeave change old)

@@ -23,7 +23,7 @@ use Rattle.store_model.proofs.SelectLemmas.{Distinct?, look_up_distinct}
 abbrev pub Told : Type 0 → Type 0
 Told P = P ⊎ (P → ⊥)
 
-by_test : {P : Type 0} (b : Bool) → Decides b P → Told P
+pub by_test : {P : Type 0} (b : Bool) → Decides b P → Told P
 by_test true d = inl (d.0 refl)
 by_test false d = inr (λ p. true≢false (sym (d.1 p)))
 
@@ -31,29 +31,29 @@ like : {P Q : Type 0} → (P → Q) → (Q → P) → Told P → Told Q
 like to from (inl p) = inl (to p)
 like to from (inr n) = inr (λ q. n (from q))
 
-both : {P Q : Type 0} → Told P → Told Q → Told (P × Q)
+pub both : {P Q : Type 0} → Told P → Told Q → Told (P × Q)
 both (inl p) (inl q) = inl (p, q)
 both (inr n) q = inr (λ h. n h.0)
 both p (inr n) = inr (λ h. n h.1)
 
-either : {P Q : Type 0} → Told P → Told Q → Told (P ⊎ Q)
+pub either : {P Q : Type 0} → Told P → Told Q → Told (P ⊎ Q)
 either (inl p) q = inl (inl p)
 either p (inl q) = inl (inr q)
 either (inr n) (inr m) = inr (λ h. elim h [ inl p ↦ n p | inr q ↦ m q ])
 
-denial : {P : Type 0} → Told P → Told (P → ⊥)
+pub denial : {P : Type 0} → Told P → Told (P → ⊥)
 denial (inl p) = inr (λ n. n p)
 denial (inr n) = inl n
 
 -- ---- trees
 
-nat_told : (a b : ℕ) → Told (a ≡ b)
+pub nat_told : (a b : ℕ) → Told (a ≡ b)
 nat_told a b = by_test (nat_eq a b) (Decides-eqb a b)
 
 int_told : (a b : ℤ) → Told (a ≡ b)
 int_told a b = by_test _ (Decides-int_eq a b)
 
-bytes_told : (a b : List ℕ) → Told (a ≡ b)
+pub bytes_told : (a b : List ℕ) → Told (a ≡ b)
 bytes_told a b = by_test (bytes_eq a b) (bytes_eq-Decides a b)
 
 subtype_told : (s t : BinarySubtype) → Told (s ≡ t)
@@ -148,7 +148,7 @@ same_told v w distinct = like (same_in_order v w distinct) (in_order_same v w) (
 
 -- ---- kinds
 
-kind_told : (a b : ElementType) → Told (a ≡ b)
+pub kind_told : (a b : ElementType) → Told (a ≡ b)
 kind_told kinds.Double kinds.Double = inl refl
 kind_told kinds.Double _ = inr (λ e. cc)
 kind_told kinds.String kinds.String = inl refl

@@ -45,7 +45,6 @@ pub mod RemoveLemmas
 pub mod RankedLemmas
 pub mod PartLemmas
 pub mod CodeLemmas
-pub mod IndexMoveLemmas
 pub mod KeepLemmas
 pub mod PlaceLemmas
 pub mod PlaceVisitLemmas

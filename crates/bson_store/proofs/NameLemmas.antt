@@ -84,11 +84,11 @@ so_far_utf8 all left rest x texts is h texts_all = texts_all x.items (subst (λ 
 
 -- ---- the names that hold a document
 
-has_bytes : (n : List ℕ) (xs : List Name) → list_any (bytes_eq n) (bytes_of_each xs) ≡ has_name xs n
+pub has_bytes : (n : List ℕ) (xs : List Name) → list_any (bytes_eq n) (bytes_of_each xs) ≡ has_name xs n
 has_bytes n [] = refl
 has_bytes n (x ∷ xs) = ap (λ b. bytes_eq n x.items || b) (has_bytes n xs)
 
-holds_is : (n : List ℕ) (a : DocumentTable) (docs : List TableRow) → AreRowsOf a docs → list_any (is_in n) docs ≡ holds (documents_of a n)
+pub holds_is : (n : List ℕ) (a : DocumentTable) (docs : List TableRow) → AreRowsOf a docs → list_any (is_in n) docs ≡ holds (documents_of a n)
 holds_is n [] [] each = refl
 holds_is n [] (d ∷ docs) each = absurd each
 holds_is n (r ∷ rs) [] each = absurd each
@@ -102,7 +102,7 @@ holds_is n (r ∷ rs) (d ∷ docs) each = by (bytes_eq d.coll n) refl (bytes_eq 
     by true i false e rest = let t : bytes_eq n r.name ≡ true = rw (← each.0.name, equal_keys d.coll n i) (same_key n) in cc
 
 -- each is a text
-texts_in : (n : List ℕ) (a : DocumentTable) (docs : List TableRow) → AreRowsOf a docs → IsTrue (list_any (is_in n) docs) → IsUtf8 n
+pub texts_in : (n : List ℕ) (a : DocumentTable) (docs : List TableRow) → AreRowsOf a docs → IsTrue (list_any (is_in n) docs) → IsUtf8 n
 texts_in n [] [] each h = cc
 texts_in n [] (d ∷ docs) each h = absurd each
 texts_in n (r ∷ rs) [] each h = absurd each

@@ -1,97 +1,20 @@
 -- Whether a value answers a question is one or the other, so of all documents there are those that a question keeps.
-use Rattle.std.proofs.Common.{◌≡◌, ◌⊎◌, inl, inr, ℕ, List, [], ◌∷◌, ◌++◌, Bool, true, false, Option, Some, None, nat_eq, refl, sym, subst, ap, true≢false}
-use Rattle.std.specs.Bool.{Decides}
-use Rattle.std.specs.Prelude.{IsSomeAnd, IsTrue, MatchOption, bytes_eq, option_and_then, unwrap_or}
-use Rattle.std.proofs.lemmas.Bool.Decides.{Decides-eqb}
-use Rattle.std.proofs.lemmas.Slice.Eq.{bytes_eq-Decides}
+use Rattle.std.proofs.Common.{◌≡◌, inl, inr, ℕ, List, [], ◌∷◌, ◌++◌, Bool, true, false, Option, Some, None, refl, sym, subst, ap, true≢false}
+use Rattle.std.specs.Prelude.{IsSomeAnd, IsTrue, MatchOption, option_and_then, unwrap_or}
 use Rattle.bson_base.specs.Value.{Value, scalar, array, document, scoped_code, Members, no_members, member, look_up, null, value_kind}
-use Rattle.bson_base.specs.declared.spec.ElementType.{ElementType}
-use Rattle.bson_base.specs.declared.spec.ElementType.TheVariants as kinds
 use Rattle.bson_order.specs.Wholes.{part_of}
 use Rattle.store_model.specs.Filter.{Path, pairs, under_places}
 use Rattle.store_model.specs.Reading.{Documents}
 use Rattle.store_model.specs.State.{AreKept}
 use Rattle.store_question.specs.Asked.{Asked, Askeds, at, whole, exists, is_of, lies, has_size, leaves, begins, has_item, no, all_of, any_of, no_asked, asked, Along, Answers, AnswersAll, AnswersAny, AnyMember, AtEnd, AtMember, AtPlace, HasItem, HasSize, IntoDocument, Through, Under, begins_so, count, leaves_so, lies_to, text_in}
 use Rattle.store_question.specs.Keeps.{Keeps}
+use Rattle.bson_store.proofs.DecideLemmas.{Told, both, either, denial, nat_told, bytes_told, kind_told}
 
--- ---- one or the other
-
-abbrev pub Told : Type 0 → Type 0
-Told P = P ⊎ (P → ⊥)
-
-by_test : {P : Type 0} (b : Bool) → Decides b P → Told P
-by_test true d = inl (d.0 refl)
-by_test false d = inr (λ p. true≢false (sym (d.1 p)))
-
-both : {P Q : Type 0} → Told P → Told Q → Told (P × Q)
-both (inl p) (inl q) = inl (p, q)
-both (inr n) q = inr (λ h. n h.0)
-both p (inr n) = inr (λ h. n h.1)
-
-either : {P Q : Type 0} → Told P → Told Q → Told (P ⊎ Q)
-either (inl p) q = inl (inl p)
-either p (inl q) = inl (inr q)
-either (inr n) (inr m) = inr (λ h. elim h [ inl p ↦ n p | inr q ↦ m q ])
-
-denial : {P : Type 0} → Told P → Told (P → ⊥)
-denial (inl p) = inr (λ n. n p)
-denial (inr n) = inl n
+-- ---- one value
 
 truth_told : (b : Bool) → Told (IsTrue b)
 truth_told true = inl refl
 truth_told false = inr (λ e. true≢false (sym e))
-
-nat_told : (a b : ℕ) → Told (a ≡ b)
-nat_told a b = by_test (nat_eq a b) (Decides-eqb a b)
-
-bytes_told : (a b : List ℕ) → Told (a ≡ b)
-bytes_told a b = by_test (bytes_eq a b) (bytes_eq-Decides a b)
-
-kind_told : (a b : ElementType) → Told (a ≡ b)
-kind_told kinds.Double kinds.Double = inl refl
-kind_told kinds.Double _ = inr (λ e. cc)
-kind_told kinds.String kinds.String = inl refl
-kind_told kinds.String _ = inr (λ e. cc)
-kind_told kinds.EmbeddedDocument kinds.EmbeddedDocument = inl refl
-kind_told kinds.EmbeddedDocument _ = inr (λ e. cc)
-kind_told kinds.Array kinds.Array = inl refl
-kind_told kinds.Array _ = inr (λ e. cc)
-kind_told kinds.Binary kinds.Binary = inl refl
-kind_told kinds.Binary _ = inr (λ e. cc)
-kind_told kinds.Undefined kinds.Undefined = inl refl
-kind_told kinds.Undefined _ = inr (λ e. cc)
-kind_told kinds.ObjectId kinds.ObjectId = inl refl
-kind_told kinds.ObjectId _ = inr (λ e. cc)
-kind_told kinds.Boolean kinds.Boolean = inl refl
-kind_told kinds.Boolean _ = inr (λ e. cc)
-kind_told kinds.DateTime kinds.DateTime = inl refl
-kind_told kinds.DateTime _ = inr (λ e. cc)
-kind_told kinds.Null kinds.Null = inl refl
-kind_told kinds.Null _ = inr (λ e. cc)
-kind_told kinds.RegularExpression kinds.RegularExpression = inl refl
-kind_told kinds.RegularExpression _ = inr (λ e. cc)
-kind_told kinds.DbPointer kinds.DbPointer = inl refl
-kind_told kinds.DbPointer _ = inr (λ e. cc)
-kind_told kinds.JavaScriptCode kinds.JavaScriptCode = inl refl
-kind_told kinds.JavaScriptCode _ = inr (λ e. cc)
-kind_told kinds.Symbol kinds.Symbol = inl refl
-kind_told kinds.Symbol _ = inr (λ e. cc)
-kind_told kinds.JavaScriptCodeWithScope kinds.JavaScriptCodeWithScope = inl refl
-kind_told kinds.JavaScriptCodeWithScope _ = inr (λ e. cc)
-kind_told kinds.Int32 kinds.Int32 = inl refl
-kind_told kinds.Int32 _ = inr (λ e. cc)
-kind_told kinds.Timestamp kinds.Timestamp = inl refl
-kind_told kinds.Timestamp _ = inr (λ e. cc)
-kind_told kinds.Int64 kinds.Int64 = inl refl
-kind_told kinds.Int64 _ = inr (λ e. cc)
-kind_told kinds.Decimal128 kinds.Decimal128 = inl refl
-kind_told kinds.Decimal128 _ = inr (λ e. cc)
-kind_told kinds.MaxKey kinds.MaxKey = inl refl
-kind_told kinds.MaxKey _ = inr (λ e. cc)
-kind_told kinds.MinKey kinds.MinKey = inl refl
-kind_told kinds.MinKey _ = inr (λ e. cc)
-
--- ---- one value
 
 any_told : (Q : List ℕ → Value → Type 0) → ((k : List ℕ) (v : Value) → Told (Q k v)) → (ms : Members) → Told (AnyMember Q ms)
 any_told Q tells no_members = inr (λ h. absurd h)

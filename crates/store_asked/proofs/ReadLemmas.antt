@@ -1,5 +1,5 @@
 -- What calls over pages do, in the words of the store.
-use Rattle.std.proofs.Common.{◌≡◌, ◌≢◌, ◌⊎◌, inl, inr, ℕ, List, [], ◌∷◌, ◌++◌, map, Bool, true, false, ◌||◌, cond, Option, Some, None, Result, Ok, Err, Vec, Global, String, append-nil, refl, ap, ap₂, ◌∙◌, sym, subst, subst₂, arith}
+use Rattle.std.proofs.Common.{◌≡◌, ◌≢◌, ◌⊎◌, inl, inr, ℕ, List, [], ◌∷◌, ◌++◌, map, Bool, true, false, Option, Some, None, Result, Ok, Err, Vec, Global, String, append-nil, refl, ap, ap₂, ◌∙◌, sym, subst, subst₂, arith}
 use Rattle.std.specs.Prelude.{IfErr, IfOk, IsTrue, IsUtf8, MatchOption, bytes_eq, string_bytes}
 use Rattle.std.specs.Cmp.Lexicographic.{slice_cmp}
 use Rattle.std.specs.List.{find, flat_map, list_any}
@@ -34,20 +34,19 @@ use Rattle.store_model.specs.Refusal.{refusal}
 use Rattle.store_model.specs.Filter.{Filter, Selects}
 use Rattle.store_model.specs.Run.{IsDecidedCall}
 use Rattle.store_model.specs.State.{AllAfter, Answers, AreAscending, Call, IsName, Picks, Reply, bytes, collections, export, get_raw, holds, on, refused}
-use Rattle.store_model.specs.Table.{DocumentTable, documents_of}
+use Rattle.store_model.specs.Table.{documents_of}
 use Rattle.store_model.specs.declared.error.ErrorKind.TheVariants.{Database, Memory, NotFound}
 use Rattle.store_model.specs.declared.error.StoreError.{StoreError}
 use Rattle.bson_store.specs.Calls.{Does}
 use Rattle.bson_store.specs.Export.{bytes_of_each}
 use Rattle.bson_store.specs.Questions.{GivesPicked, IsSettled, Picked, PickedFrom, as_names}
 use Rattle.bson_store.specs.Refusals.{IsDenied, kind_of_fault, reply_by}
-use Rattle.bson_store.specs.Shown.{AreRowsOf}
 use Rattle.bson_store.specs.declared.picking.FilterVisitor.{FilterVisitor}
 use Rattle.bson_store.proofs.ExportLemmas.{bodies_are}
+use Rattle.bson_store.proofs.NameLemmas.{has_bytes, holds_is, texts_in}
 use Rattle.bson_store.proofs.FindLemmas.{found_looks, got, not_there, there, unlooked}
 use Rattle.bson_store.proofs.SelectLemmas.{Took, picked_of, refused_one, taken}
 use Rattle.bson_store.proofs.ServeLemmas.{answers_stay, denied, memory_other, stays, undecided}
-use Rattle.bson_base.proofs.MemberLemmas.{equal_keys, same_key}
 use Rattle.store_model.proofs.RowLemmas.{list_of-state_of}
 use Rattle.bson_store.proofs.AskLemmas.{scanned}
 use Rattle.store_asked.specs.Reads.{FindsBody, OfFiles, Reads, Stays}
@@ -229,34 +228,6 @@ all_after x (y ∷ xs) h = (less (slice_cmp nat_cmp x y) h.0, all_after x xs h.1
 in_order : (xs : List (List ℕ)) → Ascends is_before xs → AreAscending xs
 in_order [] h = tt
 in_order (x ∷ xs) h = (all_after x xs h.0, in_order xs h.1)
-
-has_bytes : (n : List ℕ) (xs : List Body) → list_any (bytes_eq n) (bytes_of_each xs) ≡ has_name xs n
-has_bytes n [] = refl
-has_bytes n (x ∷ xs) = ap (λ b. bytes_eq n x.items || b) (has_bytes n xs)
-
-holds_is : (n : List ℕ) (a : DocumentTable) (docs : List TableRow) → AreRowsOf a docs → list_any (is_in n) docs ≡ holds (documents_of a n)
-holds_is n [] [] each = refl
-holds_is n [] (d ∷ docs) each = absurd each
-holds_is n (r ∷ rs) [] each = absurd each
-holds_is n (r ∷ rs) (d ∷ docs) each = by (bytes_eq d.coll n) refl (bytes_eq n r.name) refl (holds_is n rs docs each.1)
-  where
-    by : (c : Bool) → bytes_eq d.coll n ≡ c → (b : Bool) → bytes_eq n r.name ≡ b → list_any (is_in n) docs ≡ holds (documents_of rs n)
-        → (c || list_any (is_in n) docs) ≡ holds (cond b (r.document ∷ documents_of rs n) (documents_of rs n))
-    by true i true e rest = refl
-    by false i false e rest = rest
-    by false i true e rest = let t : bytes_eq d.coll n ≡ true = rw (each.0.name, equal_keys n r.name e) (same_key r.name) in cc
-    by true i false e rest = let t : bytes_eq n r.name ≡ true = rw (← each.0.name, equal_keys d.coll n i) (same_key n) in cc
-
--- each is a text
-texts_in : (n : List ℕ) (a : DocumentTable) (docs : List TableRow) → AreRowsOf a docs → IsTrue (list_any (is_in n) docs) → IsUtf8 n
-texts_in n [] [] each h = cc
-texts_in n [] (d ∷ docs) each h = absurd each
-texts_in n (r ∷ rs) [] each h = absurd each
-texts_in n (r ∷ rs) (d ∷ docs) each h = by (bytes_eq d.coll n) refl h (texts_in n rs docs each.1)
-  where
-    by : (c : Bool) → bytes_eq d.coll n ≡ c → IsTrue (c || list_any (is_in n) docs) → (IsTrue (list_any (is_in n) docs) → IsUtf8 n) → IsUtf8 n
-    by true i h rest = subst IsUtf8 (sym each.0.name ∙ equal_keys d.coll n i) each.0.text
-    by false i h rest = rest h
 
 pub named : (docs : List TableRow) (names : List Body) (r : Result (Vec (String Global) Global) StoreError) → IfOk r (λ v. map string_bytes v.items ≡ bytes_of_each names) → (((n : List ℕ) → IsTrue (has_name names n) → IsUtf8 n) → IfErr r (λ e. e ≡ refusal Memory))
     → ((c : List ℕ) → has_name names c ≡ list_any (is_in c) docs) → Ascends is_before (names_in names) → Does collections (reply_by as_names r) docs docs

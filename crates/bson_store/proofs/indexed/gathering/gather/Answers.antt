@@ -6,7 +6,7 @@ use Rattle.store_table.specs.Table.{table_state}
 use Rattle.bson_store.specs.Gathering.{MakesIndex}
 use Rattle.bson_store.specs.declared.indexed.gathering.Gatherer.{Gatherer}
 use Rattle.bson_store.proofs.GatherLemmas.{TookRows, made}
-use Rattle.bson_store.proofs.IndexMoveLemmas.{moved}
+use Rattle.bson_store.proofs.MoveLemmas.{moved}
 use Rattle.bson_store.proofs.indexed.gathering.gather.Goals as goal
 
 pub returns-clause-moves : goal.returns-clause-moves

@@ -3,7 +3,7 @@ use Rattle.sqlite.specs.State.{HasCleanDisk}
 use Rattle.sqlite.proofs.StateLemmas.{survives_then}
 use Rattle.store_table.specs.Table.{table_state}
 use Rattle.bson_store.specs.Asking.{VisitsPlaces}
-use Rattle.bson_store.proofs.IndexMoveLemmas.{moved, moved_twice}
+use Rattle.bson_store.proofs.MoveLemmas.{moved, moved_twice}
 use Rattle.bson_store.proofs.PlaceVisitLemmas.{Comes, comes_on, comes_to, comes_last}
 use Rattle.bson_store.proofs.indexed.reading.visit_places.Goals as goal
 

@@ -10,7 +10,7 @@ use Rattle.store_table.proofs.TableLemmas.{not_places}
 use Rattle.bson_store.specs.Asking.{VisitsAsked}
 use Rattle.bson_store.proofs.AskLemmas.{asked_moves, scanned, refused}
 use Rattle.bson_store.proofs.KeepLemmas.{read_keeps}
-use Rattle.bson_store.proofs.IndexMoveLemmas.{moved}
+use Rattle.bson_store.proofs.MoveLemmas.{moved}
 use Rattle.bson_store.proofs.indexed.table.IndexedTable.visit_asked.Goals as goal
 
 pub invariant_of-self : goal.invariant_of-self
