@@ -13,7 +13,8 @@ use Rattle.store_update.specs.Plan.{Path, path_of}
 use Rattle.store_update.specs.Update.{Tells, found}
 use Rattle.store_update.specs.declared.error.UpdateError.{UpdateError}
 use Rattle.store_update.specs.declared.error.UpdateError.TheVariants.{Memory}
-use Rattle.store_pipeline.specs.Unwound.{found_in, if_kept, is_nothing, opened, opened_array, or_same, unwound, with_at}
+use Rattle.store_pipeline.specs.Groups.{is_null}
+use Rattle.store_pipeline.specs.Unwound.{found_in, if_kept, opened, opened_array, or_same, unwound, with_at}
 use Rattle.store_pipeline.specs.declared.stage.Unwinding.{Unwinding}
 use Rattle.store_pipeline.proofs.TwiceLemmas.{put_there_twice}
 
@@ -45,7 +46,7 @@ module _ (keeps : Bool) (p : Path) (d : Members) where
   pub none_opened : (base : Members) (vs : List Value) → base ≡ with_at p d None → vs ≡ [] → if_kept keeps base ≡ opened_array keeps p d (items_of vs)
   none_opened base vs is none = ap (if_kept keeps) is ∙ ap (λ us. opened_array keeps p d (items_of us)) (sym none)
 
-  pub else_opened : (v : Value) → None ≡ as_array v → opened keeps p d (Some v) ≡ if_kept (not (is_nothing v) || keeps) d
+  pub else_opened : (v : Value) → None ≡ as_array v → opened keeps p d (Some v) ≡ if_kept (not (is_null v) || keeps) d
   else_opened (array ws) is = absurd cc
   else_opened v is = refl
 

@@ -8,7 +8,8 @@ use Rattle.store_update.specs.Plan.{Path, path_of}
 use Rattle.store_update.specs.Update.{altered, found, inside, settled, settled_inside}
 use Rattle.store_update.specs.declared.error.UpdateError.{UpdateError}
 use Rattle.store_pipeline.specs.Faithful.{AreFaithful, IsFaithful}
-use Rattle.store_pipeline.specs.Unwound.{found_in, if_kept, is_nothing, opened, opened_array, or_same, unwound, with_at}
+use Rattle.store_pipeline.specs.Groups.{is_null}
+use Rattle.store_pipeline.specs.Unwound.{found_in, if_kept, opened, opened_array, or_same, unwound, with_at}
 use Rattle.store_pipeline.specs.declared.stage.Unwinding.{Unwinding}
 use Rattle.store_pipeline.proofs.EachLemmas.{all_mapped}
 use Rattle.store_pipeline.proofs.FaithfulLemmas.{items_faithful, put_in, taken_out, under}
@@ -67,7 +68,7 @@ module _ (keeps : Bool) (p : Path) (d : Members) (f : IsFaithful (document d)) w
   opened_faithful (Err e) is = kept_faithful keeps d f
   opened_faithful (Ok None) is = kept_faithful keeps d f
   opened_faithful (Ok (Some (array vs))) is = array_faithful vs is
-  opened_faithful (Ok (Some v)) is = kept_faithful (not (is_nothing v) || keeps) d f
+  opened_faithful (Ok (Some v)) is = kept_faithful (not (is_null v) || keeps) d f
 
 pub unwound_faithful : (u : Unwinding) (d : Members) → IsFaithful (document d) → AreFaithful (unwound u d)
 unwound_faithful u d f = opened_faithful u.keeps (path_of u.path.items) d f (found (path_of u.path.items) (Some (document d))) refl

@@ -1,11 +1,12 @@
 -- What a document is taken apart into (MongoDB, $unwind).
-use Rattle.std.specs.Prelude.{List, [], ◌∷◌, map, Bool, true, false, not, ◌||◌, if◌then◌else◌, Option, Some, None, Result, Ok, Err}
-use Rattle.bson_base.specs.Value.{Value, scalar, null, undefined, array, document, Items, no_items, item, Members}
+use Rattle.std.specs.Prelude.{List, [], ◌∷◌, map, Bool, not, ◌||◌, if◌then◌else◌, Option, Some, None, Result, Ok, Err}
+use Rattle.bson_base.specs.Value.{Value, array, document, Items, no_items, item, Members}
 use Rattle.store_model.specs.Reading.{Documents}
 use Rattle.store_update.specs.Arrays.{values}
 use Rattle.store_update.specs.Plan.{Path, path_of}
 use Rattle.store_update.specs.Update.{altered, found}
 use Rattle.store_update.specs.declared.error.UpdateError.{UpdateError}
+use Rattle.store_pipeline.specs.Groups.{is_null}
 use Rattle.store_pipeline.specs.declared.stage.Unwinding.{Unwinding}
 
 -- what a path leads to through documents alone
@@ -30,16 +31,11 @@ abbrev pub opened_array : Bool → Path → Members → Items → Documents
 opened_array keeps p d no_items = if_kept keeps (with_at p d None)
 opened_array keeps p d (item v vs) = map (λ w. with_at p d (Some w)) (values (item v vs))
 
-abbrev pub is_nothing : Value → Bool
-is_nothing (scalar null) = true
-is_nothing (scalar undefined) = true
-is_nothing v = false
-
 -- a value that is no array leaves the document as it is
 abbrev pub opened : Bool → Path → Members → Option Value → Documents
 opened keeps p d None = if_kept keeps d
 opened keeps p d (Some (array vs)) = opened_array keeps p d vs
-opened keeps p d (Some v) = if_kept (not (is_nothing v) || keeps) d
+opened keeps p d (Some v) = if_kept (not (is_null v) || keeps) d
 
 abbrev pub unwound : Unwinding → Members → Documents
 unwound u d = opened u.keeps (path_of u.path.items) d (found_in (found (path_of u.path.items) (Some (document d))))

@@ -105,7 +105,7 @@ fn average_of(values: &[Bson]) -> Result<Bson, UpdateError>
 }
 
 /// Whether a value is null, or undefined, which stands for it.
-fn is_null(value: &Bson) -> bool
+pub(crate) fn is_null(value: &Bson) -> bool
     ensures { result ≡ is_null (view value.now) }
 {
     match value {

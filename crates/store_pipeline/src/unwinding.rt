@@ -11,8 +11,10 @@ ghost use Rattle.store_update.specs.Plan.{change_of, path_of};
 ghost use Rattle.store_update.specs.Update.{altered as altered_members, found as found_at, made as made_by};
 ghost use Rattle.store_update.specs.declared.error.UpdateError.TheVariants.{Memory};
 ghost use Rattle.store_pipeline.specs.Faithful.{AnswersMade};
-ghost use Rattle.store_pipeline.specs.Unwound.{found_in, if_kept, is_nothing as is_nothing_at, opened as opened_at, opened_array as opened_items, or_same, unwound, with_at};
+ghost use Rattle.store_pipeline.specs.Groups.{is_null as is_null_at};
+ghost use Rattle.store_pipeline.specs.Unwound.{found_in, if_kept, opened as opened_at, opened_array as opened_items, or_same, unwound, with_at};
 
+use crate::accumulating::is_null;
 use crate::error::PipelineError;
 use crate::stage::Unwinding;
 use crate::writing::write_each;
@@ -126,40 +128,11 @@ fn opened_array(
     with_each(alloc, &emptied, path, items)
 }
 
-/// Whether a value counts as none.
-fn is_nothing(value: &Bson) -> bool
-    ensures { result ≡ is_nothing_at (view value.now) }
-{
-    match value {
-        Bson::Null => true,
-        Bson::Undefined => true,
-        Bson::Int32(_) => false,
-        Bson::Int64(_) => false,
-        Bson::Double(_) => false,
-        Bson::Decimal128(_) => false,
-        Bson::String(_) => false,
-        Bson::Array(_) => false,
-        Bson::Document(_) => false,
-        Bson::Boolean(_) => false,
-        Bson::RegularExpression(_) => false,
-        Bson::JavaScriptCode(_) => false,
-        Bson::JavaScriptCodeWithScope(_) => false,
-        Bson::Timestamp(_) => false,
-        Bson::Binary(_) => false,
-        Bson::ObjectId(_) => false,
-        Bson::DateTime(_) => false,
-        Bson::Symbol(_) => false,
-        Bson::MaxKey => false,
-        Bson::MinKey => false,
-        Bson::DbPointer(_) => false,
-    }
-}
-
 /// Whether a document stays as it is with a value at the path that is no array.
 fn stays(value: &Bson, keeps: bool) -> bool
-    ensures { result ≡ (not (is_nothing_at (view value.now)) || keeps) }
+    ensures { result ≡ (not (is_null_at (view value.now)) || keeps) }
 {
-    !is_nothing(value) || keeps
+    !is_null(value) || keeps
 }
 
 /// The documents that a document is taken apart into by the value at the path.
