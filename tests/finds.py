@@ -111,7 +111,7 @@ def led_to(value, path=""):
 
 class Agreed(Finds):
     """Documents and queries for which mongomock finds what the manual says. What it takes for something else isn't made, nor is what has a
-    row in QUERIES (Beside MongoDB): decimals, regular expressions as values, patterns that are no fixed beginning."""
+    row in QUERIES (Beside MongoDB): decimals, regular expressions as values."""
     INDEXED = ["n", "t", "m", "l", "d.n", "d.l", "r.n", "l.0", "r.0.n"]
     # 0 and 1 are false and true for it, an Int64 of few bits is an Int32, NaN isn't NaN, and time stamps and others have no order. A
     # document is also one with its keys in another order, and an array in an array isn't found by $eq, but gone into by $elemMatch.
@@ -181,7 +181,7 @@ class Agreed(Finds):
         between = [lambda: self.between(1 if alone else 2)] * 3
         asks = self.some(
             lambda: {"$eq": self.operand(null)}, lambda: {"$in": self.scalars(1, 5, null)}, lambda: {"$type": self.some(*self.KINDS)},
-            lambda: {"$regex": self.some("^x", "^", "^x\\.", "^Jü", "^xy")}, lambda: {"$exists": self.some(True, 1)}, *between, *more)
+            lambda: {"$regex": self.some("^x", "^", "^x\\.", "^Jü", "^xy", "y", "[xy]\\.", "x+y?", "ü.*n$")}, lambda: {"$exists": self.some(True, 1)}, *between, *more)
         refuses = self.some(lambda: {"$ne": self.operand(null)}, lambda: {"$nin": self.scalars(1, 5, null)})
         if not alone and self.happens(0.15):
             return {**asks(), **refuses()}

@@ -158,7 +158,14 @@ class Lists:
             return [command, name, self.stream() if self.happens(0.3) else documents]
         if command in OF_INDEXES:
             return [command, name, self.path()]
+        if command == "find" and self.happens(0.5):
+            return [command, name, self.query(), self.part()]
         return [command, name, self.query()]
+
+    def part(self):
+        """An order, and the first ones in it."""
+        paths = [self.path() for _ in range(self.chance.choices([1, 2], [3, 1])[0])]
+        return {"sort": {path: self.one_of([1, -1]) for path in paths}, "skip": self.chance.randrange(3), "limit": self.chance.randrange(1, 4)}
 
     def requests(self):
         listed = [self.request() for _ in range(self.chance.randrange(10, 60))]
@@ -313,6 +320,23 @@ def measure():
             fail(f"{query(100)} reads many documents: {by_index:.3f} s, without the index {by_all:.3f} s")
 
 
+def measure_sorted():
+    """Of an order along the indexed path the first of a range are found without a way through all of it."""
+    changes = changes_beside_indexes()
+    plain = without_indexes(changes)
+    start = seconds(changes, "base.db")[1]
+    for way in (1, -1):
+        questions = [["find", "c", {"a.b": {"$gte": n, "$lt": n + 1000}}, {"sort": {"a.b": way}, "limit": 10}] for n in range(0, 1000, 4)]
+        found, by_index = seconds(changes + questions, "with.db")
+        scanned, by_all = seconds(plain + questions, "without.db")
+        if found[len(changes):] != scanned[len(plain):]:
+            fail(f"the first ones in the order {way} differ")
+        print(f"{len(questions)} finds of ten in the order {way}: {by_index - start:.2f} s of the processor, without the index {by_all - start:.2f} s")
+        if by_index - start > (by_all - start) / 4:
+            fail("an order along an index reads many documents")
+
+
 compare()
 measure()
+measure_sorted()
 questions.by_indexes(PROGRAM)

@@ -328,17 +328,30 @@ def remainders(tree):
     return leaves
 
 
-def beginning(tree):
-    """What a pattern that is a fixed beginning begins with."""
+# Options of a pattern, and what they are in Python's `re`, whose patterns of texts are Unicode's anyway.
+OPTIONS = {"i": re.IGNORECASE, "m": re.MULTILINE, "s": re.DOTALL, "x": re.VERBOSE, "u": 0}
+
+
+def searching(tree, beside):
+    """The search for a pattern, by the `re` of Python, which has more than the program takes: what looks ahead or behind, and what
+    refers back. Its `$` is also in front of a line feed at the end, which the program's isn't. Else the lines have no pattern that
+    the two read in two ways."""
     value = value_of(tree)
-    pattern = value[1] if value[0] == "string" else value[1][0] if value[0] == "regex" and not value[1][1] else ""
-    fixed = re.fullmatch(r"\^((?:[^.^$*+?()\[\]{}|\\]|\\[!-/:-@\[-`{-~])*)", pattern, re.DOTALL)
-    if not fixed:
+    if value[0] not in ("string", "regex"):
         raise Refused(tree)
-    return re.sub(r"\\(.)", r"\1", fixed[1])
+    pattern, own = (value[1], "") if value[0] == "string" else value[1]
+    if own and beside or set(own) - set(OPTIONS) or re.search(r"\(\?<?[=!]|\\[1-9]", pattern):
+        raise Refused(tree)
+    if "m" not in (own or beside):
+        pattern = re.sub(r"\\.|\[[^\]]*\]|\$", lambda part: r"\Z" if part[0] == "$" else part[0], pattern, flags=re.DOTALL)
+    try:
+        made = re.compile(pattern, sum(OPTIONS.get(letter, 0) for letter in set(own or beside)))
+    except re.error as error:
+        raise Refused(tree) from error
+    return lambda text: made.search(text) is not None
 
 
-def leaf(operator, tree):
+def leaf(operator, tree, options):
     """What an operator that isn't made of others asks of one value, and whether an array at a path's end is opened for it."""
     if operator in ("$eq", "$gt", "$gte", "$lt", "$lte"):
         wanted = wanted_of(tree) if operator == "$eq" else plain(tree)
@@ -357,8 +370,8 @@ def leaf(operator, tree):
     if operator == "$mod":
         return True, remainders(tree)
     if operator == "$regex":
-        begins = beginning(tree)
-        return True, lambda found: found[0] in ("string", "symbol") and found[1].startswith(begins)
+        finds = searching(tree, options)
+        return True, lambda found: found[0] in ("string", "symbol") and finds(found[1])
     if operator == "$elemMatch":
         return False, element_match(tree)
     raise Refused(operator)
@@ -378,8 +391,9 @@ def truth(value):
     return value[1] if value[0] == "bool" else whole(value) != 0
 
 
-def test(path, operator, tree):
-    """What an operator asks of a document's members under a path, or of one value if there is no path."""
+def test(path, operator, tree, options=""):
+    """What an operator asks of a document's members under a path, or of one value if there is no path. The options are those beside
+    a pattern."""
     if operator not in TESTS:
         raise Refused(operator)
 
@@ -411,10 +425,10 @@ def test(path, operator, tree):
         asked = tests(path, tree)
         return lambda given: not asked(given)
     if operator == "$options":
-        if tree != ("string", ""):
+        if tree[0] != "string" or set(tree[1]) - set(OPTIONS):
             raise Refused(tree)
         return lambda given: True
-    return reached(*leaf(operator, tree))
+    return reached(*leaf(operator, tree, options))
 
 
 def one_of_all(path, tree):
@@ -429,7 +443,8 @@ def one_of_all(path, tree):
 def tests(path, tree):
     if "$options" in dict(tree[1]) and "$regex" not in dict(tree[1]):
         raise Refused(tree)
-    asked = [test(path, operator, body) for operator, body in tree[1]]
+    kind, options = dict(tree[1]).get("$options", ("string", ""))
+    asked = [test(path, operator, body, options if kind == "string" else "") for operator, body in tree[1]]
     return lambda given: all(one(given) for one in asked)
 
 
@@ -475,7 +490,7 @@ SCALARS = ["0", "1", "2", "-3", "7", '{"$numberLong":"1"}', '{"$numberLong":"3"}
            '{"$numberDecimal":"NaN"}', "9007199254740993", "9007199254740993.0", "18446744073709551617", "1e-400",
            "0.1000000000000000055511151231257827021181583404541015625", '{"$numberDouble":"9007199254740992"}',
            '{"$numberDecimal":"18446744073709551617"}', '{"$numberDecimal":"0.1"}', "0.1",
-           '"x"', '"y"', '"x.y"', '"Jürgen"', '{"$symbol":"x"}', "null", '{"$undefined":true}', "true", "false", '{"$minKey":1}', '{"$maxKey":1}',
+           '"x"', '"y"', '"x.y"', '"Jürgen"', '"jÜRGEN"', '"x\\ny"', '"xxy"', '"Xy 7"', '""', '{"$symbol":"x"}', "null", '{"$undefined":true}', "true", "false", '{"$minKey":1}', '{"$maxKey":1}',
            '{"$date":{"$numberLong":"5"}}', '{"$oid":"650000000000000000000002"}', '{"$timestamp":{"t":1,"i":2}}',
            '{"$regularExpression":{"pattern":"x","options":""}}']
 KEYS = ["a", "b", "0", "1"]
@@ -526,17 +541,27 @@ class Lines:
         if operator == "$mod":
             return self.some("[2,1]", "[3,0]", "[2,-1]", "[2.5,1]", "[0,1]", "[2]", '[{"$numberLong":"-3"},{"$numberDecimal":"1.9"}]')
         if operator == "$regex":
-            pattern = self.some("^x", "^", "^x\\\\.", "^x.", "^y", "^Jü", "^x\\\\y", "^x\\\\", "x", "", "^x\\\\.y", "^x\\\\!", "^(x)")
-            options = self.some("", "", "", "i")
+            pattern = self.pattern()
+            options = self.some("", "", "", "i", "ms", "z")
             expression = '{"$regularExpression":{"pattern":"%s","options":"%s"}}' % (pattern, options)
             return self.some(f'"{pattern}"', f'"{pattern}"', expression, '{"$symbol":"^x"}')
         if operator == "$options":
-            return self.some('""', '""', '"i"', "null")
+            return self.some('""', '""', '"i"', '"m"', '"s"', '"x"', '"imsxu"', '"z"', "null")
         if operator == "$not":
             return self.operators(depth + 1)
         if operator == "$elemMatch":
             return self.operators(depth + 1) if self.random.randrange(2) else self.query(depth + 1)
         return self.operand()
+
+    def pattern(self, depth=0):
+        """A pattern as JSON has it: of a fixed beginning, of parts, or a fault."""
+        if not depth and self.random.randrange(2):
+            return self.some("^x", "^", "^x\\\\.", "^y", "^Jü", "^x\\\\y", "^x\\\\", "", "^x\\\\.y", "^x\\\\!", "(", "[x", "*x", "x)", "\\\\1", "(?=x)x", "x (y) #")
+        parts = [self.some("x", "y", "Y", "ü", ".", "[xy]", "[^x]", "\\\\.", "\\\\w", "\\\\d", "\\\\b", " ", "#", "rg", "(?:x|y)", "\\\\n", "^", "$",
+                           "(%s)" % self.pattern(depth + 1) if depth < 2 else "x") for _ in range(self.some(1, 1, 2, 3))]
+        # Neither says the same of a quantifier behind an anchor.
+        parts = [part + self.some("", "", "", "*", "+", "?", "{2}", "{1,2}", "*?") if part not in ("^", "$", "\\\\b", "#", " ") else part for part in parts]
+        return ("" if self.random.randrange(4) else "|").join(parts).replace(" | ", "|")
 
     def operators(self, depth=0):
         names = self.random.sample(OPERATORS, self.some(1, 1, 1, 2))
@@ -563,12 +588,27 @@ class Lines:
     def line(self):
         return f"{self.query()} | {self.document()}"
 
+    def search(self):
+        """What a pattern asks of a text, with options more often than elsewhere."""
+        options = self.some("", "", "i", "m", "s", "x", "im", "imsxu")
+        body = '{"$regex":"%s"%s}' % (self.pattern(), f',"$options":"{options}"' if options or self.random.randrange(2) else "")
+        return self.some(body, body, body, '{"$not":%s}' % body, '{"$elemMatch":%s}' % body)
+
+    def text(self):
+        return '"%s"' % "".join(self.some("x", "y", "X", "ü", "Ü", ".", "7", " ", "#", "\\n", "rg") for _ in range(self.some(0, 1, 2, 3, 6)))
+
+    def line_of_search(self):
+        texts = [self.text() for _ in range(self.some(1, 1, 1, 2))]
+        return '{"a":%s} | {"a":%s}' % (self.search(), texts[0] if len(texts) == 1 else f"[{','.join(texts)}]")
+
     def ranges(self):
         """A query by one or two paths, of what is less or greater than an operand, or between two."""
         def between():
             return "{%s}" % ",".join(f'"{name}":{self.operand()}' for name in self.random.sample(RANGES, self.some(1, 2, 2)))
 
         entries = {path: between() for path in self.random.sample(INDEXED, self.some(1, 1, 2))}
+        if self.random.randrange(4) == 0:
+            entries[self.some("a", "b", "a.b")] = self.search()
         body = "{%s}" % ",".join(f'"{path}":{asked}' for path, asked in entries.items())
         return self.some(body, body, '{"$and":[%s,%s]}' % (body, self.query(1)), '{"$or":[%s,%s]}' % (body, self.query(1)))
 
@@ -637,6 +677,9 @@ def main(program=None, count="4000", seed="67"):
         lines = [made.line() for _ in range(int(count))]
         done = subprocess.run([program, "question"], input="".join(line + "\n" for line in lines), capture_output=True, text=True, check=True)
         compare(lines, done.stdout.splitlines(), "random lines")
+        lines = [made.line_of_search() for _ in range(int(count))]
+        done = subprocess.run([program, "question"], input="".join(line + "\n" for line in lines), capture_output=True, text=True, check=True)
+        compare(lines, done.stdout.splitlines(), "random patterns")
 
 
 if __name__ == "__main__":

@@ -114,7 +114,7 @@ WALK = [
     ("fallowtime shop.db distinct orders prize", 0, "fallowtime: nothing is found, as no document has 'prize'\n"),
     ("fallowtime shop.db distinct orders customer.city", 0, '"Bonn"\n"Ulm"\n'),
     ('fallowtime shop.db count orders "{\\"price\\":{\\"$gt\\":1}}"', 0, "0\nfallowtime: nothing is found, and QUERY asks for an empty key: "),
-    ("fallowtime shop.db find orders '{\"customer.name\":{\"$regex\":\"da\"}}'", 2, "..$regex takes a fixed beginning alone"),
+    ("fallowtime shop.db find orders '{\"customer.name\":{\"$regex\":\"d(?=a)\"}}'", 2, "..$regex takes no pattern that looks ahead"),
     ("fallowtime shop.db find ordrs", 0, "fallowtime: there is no collection 'ordrs', but there is orders"),
     ("fallowtime shop.db get orders 65000000000000000000000a", 1, "..this ID is a text; an ObjectId is written "),
     ("fallowtime shop.db remove orders '{\"price\":5}'", 1, "..this ID is a document; find, update and delete take a QUERY"),

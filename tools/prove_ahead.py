@@ -1,14 +1,15 @@
 #!/usr/bin/env python3
-"""Proves crates for the gate, ahead of it: `rt ci CRATE` for each crate once those below it are kept, several side by side.
+"""Proves crates in the order that ends soonest: `rt ci CRATE` for each crate once those below it are kept, several side by side.
 
-    tools/prove_ahead.py [--at-once N] [CRATE ..]
+    tools/prove_ahead.py [--at-once N] [--into FOLDER] [CRATE ..]
     tools/prove_ahead.py --libraries
 
 What `rt ci` keeps of a crate counts for each checkout on this machine, and for the gate, while the texts of the crate and of all below
-it stay the same. Without a CRATE all are proved, and with some these and all below them. N jobs are given out, as many as there are
-processors if N isn't given. The crate with the longest way to the end comes first, and is given two of them, as many as `rt ci` gives
-a crate that it proves alone; the others are given one. A crate that changes meanwhile is proved as it is when its turn comes. What was
-said of each is in target/ahead/CRATE.log.
+it stay the same. So the gate begins with this, and whoever works calls it ahead of the gate. Without a CRATE all are proved, and with
+some these and all below them. N jobs are given out, as many as there are processors if N isn't given. The crate with the longest way to
+the end comes first, and is given two of them, as many as `rt ci` gives a crate that it proves alone; the others are given one, and wait
+while little memory is free. A crate that changes meanwhile is proved as it is when its turn comes. What was said of each is in
+target/ahead/CRATE.log, and its library is put into FOLDER, where `tools/wrong_bodies.py --beside FOLDER` waits for it.
 
 The second line proves nothing: it puts the newest library that is kept of each crate into this checkout, where tools/wrong_bodies.py and
 tools/check_over.py look for it.
@@ -17,6 +18,7 @@ import argparse
 import json
 import os
 import pathlib
+import re
 import shutil
 import subprocess
 import sys
@@ -28,6 +30,10 @@ PARTS = ("src", "specs", "proofs")
 # The jobs that `rt ci` gives a single crate, and how often is looked whether one has ended, in seconds.
 ALONE = 2
 PAUSE = 2
+# What has to be free of memory, in bytes, before a proof begins beside others.
+ROOM = 5 << 30
+# How many lines are printed of what is said of a crate that isn't proved.
+LAST = 40
 
 
 def crates():
@@ -73,8 +79,8 @@ def start(name, jobs):
 class Ahead:
     """The crates that are still to be proved, and those that are being proved, each with its process and its jobs."""
 
-    def __init__(self, below, wanted, most):
-        self.below, self.most, self.ways = below, most, ways(below)
+    def __init__(self, below, wanted, most, into):
+        self.below, self.most, self.into, self.ways = below, most, into, ways(below)
         self.left, self.running, self.kept, self.failed = list(wanted), {}, set(), set()
 
     def settle(self):
@@ -83,15 +89,25 @@ class Ahead:
             if process.poll() is not None:
                 del self.running[name]
                 (self.failed if process.returncode else self.kept).add(name)
-                print(f"prove_ahead.py: {name} {'NOT PROVED' if process.returncode else 'kept'}", flush=True)
+                self.tell(name, not process.returncode)
         for name in self.left:
             if self.failed.intersection(self.below[name]):
                 self.failed.add(name)
         self.left = [name for name in self.left if name not in self.failed]
 
+    def tell(self, name, is_kept):
+        """Says what came of a crate, with the end of what was said of it if it isn't proved, and else puts its library where it is waited for."""
+        if not is_kept:
+            print(*(LOGS / f"{name}.log").read_text(encoding="utf-8", errors="replace").splitlines()[-LAST:], sep="\n")
+        elif self.into:
+            put_library(newest()[name], self.into / name)
+        print(f"prove_ahead.py: {name} {'kept' if is_kept else 'NOT PROVED'}", flush=True)
+
     def jobs_for(self, name):
         """The jobs for a crate: two if none has a longer way, which may be one more than are free; 0 if it has to wait."""
         free = self.most - sum(jobs for _, jobs in self.running.values())
+        if self.running and free_memory() < ROOM:
+            return 0
         is_longest = all(self.ways[each] <= self.ways[name] for each in [*self.left, *self.running])
         return (ALONE if is_longest else 1) if free > 0 else 0
 
@@ -112,25 +128,38 @@ class Ahead:
         return 1 if self.failed else 0
 
 
-def put_library(name, entry):
-    """Puts what an entry of the store has of a crate's library into this checkout."""
+def free_memory():
+    return int(re.search(r"^MemAvailable: +([0-9]+) kB", pathlib.Path("/proc/meminfo").read_text(encoding="utf-8"), re.MULTILINE)[1]) * 1024
+
+
+def newest():
+    """Where the store has what it kept last of each crate."""
+    page = subprocess.run(["rt", "doc"], check=True, capture_output=True, text=True).stdout.strip()
+    store = pathlib.Path(page).resolve().parent.parent / "rattle-kept"
+    entries = sorted((file.parent for file in store.glob("proof-*/made.json")), key=lambda entry: entry.stat().st_mtime)
+    return {entry.name.removeprefix("proof-").rpartition("-")[0]: entry for entry in entries}
+
+
+def put_library(entry, folder):
+    """Puts what an entry of the store has of a crate's library into a folder, in the place of what is there, if it has one."""
     made = json.loads((entry / "made.json").read_text(encoding="utf-8"))
-    shutil.rmtree(ROOT / "crates" / name / "out" / "rlib", ignore_errors=True)
-    for number, (path, _) in enumerate(made["files"]):
-        file = ROOT / "crates" / name / "out" / path
+    paths = [(number, path.removeprefix("rlib/")) for number, (path, _) in enumerate(made["files"]) if path.startswith("rlib/")]
+    anew = folder.with_name(f"{folder.name}-{os.getpid()}")
+    for number, path in paths:
+        file = anew / path
         file.parent.mkdir(parents=True, exist_ok=True)
         shutil.copyfile(entry / str(number), file)
+    shutil.rmtree(folder, ignore_errors=True)
+    if paths:
+        anew.rename(folder)
 
 
 def put_libraries():
     """Puts the newest library that is kept of each crate into this checkout, and names the crates of which none is."""
-    page = subprocess.run(["rt", "doc"], check=True, capture_output=True, text=True).stdout.strip()
-    store = pathlib.Path(page).resolve().parent.parent / "rattle-kept"
-    entries = sorted((file.parent for file in store.glob("proof-*/made.json")), key=lambda entry: (entry / "made.json").stat().st_mtime)
-    newest = {entry.name.removeprefix("proof-").rpartition("-")[0]: entry for entry in entries}
+    found = newest()
     for name in crates():
-        if name in newest:
-            put_library(name, newest[name])
+        if name in found:
+            put_library(found[name], ROOT / "crates" / name / "out" / "rlib")
         else:
             print(f"prove_ahead.py: nothing is kept of {name}")
     return 0
@@ -139,6 +168,7 @@ def put_libraries():
 def main():
     reader = argparse.ArgumentParser(description=__doc__, formatter_class=argparse.RawDescriptionHelpFormatter)
     reader.add_argument("--at-once", type=int, default=os.cpu_count(), metavar="N")
+    reader.add_argument("--into", type=pathlib.Path, metavar="FOLDER")
     reader.add_argument("--libraries", action="store_true")
     reader.add_argument("crates", nargs="*", metavar="CRATE")
     words = reader.parse_args()
@@ -148,7 +178,7 @@ def main():
     unknown = [name for name in words.crates if name not in below]
     if unknown:
         sys.exit(f"prove_ahead.py: crates.txt has no {unknown[0]}")
-    return Ahead(below, with_below(below, words.crates or below), words.at_once).run()
+    return Ahead(below, with_below(below, words.crates or below), words.at_once, words.into).run()
 
 
 if __name__ == "__main__":

@@ -8,13 +8,13 @@ from collections.abc import Mapping
 from typing import Any, Callable, Dict, Iterator, List
 
 from ._encode import GREATEST_INT32, GREATEST_INT64, LEAST_INT32, LEAST_INT64, RESERVED, encode_text, encode_value
-from ._values import Code, Int64, ObjectId, Regex, Symbol, is_foreign
+from ._values import Code, Int64, ObjectId, Regex, Symbol, is_foreign, options_of
 
 # Classes of values that are equal to `_id`s of one way of writing, and of which most are.
 PLAIN = frozenset([int, str, float, ObjectId])
 JOINING = frozenset(["$and", "$or", "$nor"])
-# Patterns that ask for a fixed beginning: each character stands for itself, punctuation of ASCII behind a backslash.
-_BEGINNING = re.compile(r"\^(?:[^.^$*+?()\[\]{}|\\]|\\[!-/:-@\[-`{-~])*", re.DOTALL)
+# The options of a pattern that the program takes.
+_OPTIONS = frozenset("imsux")
 
 
 def is_number(value: Any) -> bool:
@@ -100,21 +100,21 @@ def _type(value: Any) -> str:
 
 
 def _regex(value: Any) -> str:
-    """A pattern that is a fixed beginning. What `re.compile` makes of a text has the flag for Unicode, which a text of
-    BSON is in any case."""
-    pattern, others = value, False
+    """A pattern, which the program refuses if it hasn't its syntax. What `re.compile` makes of a text has the flag for
+    Unicode, which a text of BSON is in any case."""
+    if isinstance(value, str):
+        return encode_text(value)
     if is_regex(value):
-        pattern = value.pattern
-        others = value.options.replace("u", "") != "" if isinstance(value, Regex) else bool(value.flags & ~re.UNICODE)
-    if others or not isinstance(pattern, str) or not _BEGINNING.fullmatch(pattern):
-        raise NotImplementedError(
-            f"$regex can be had for a fixed beginning without flags, as '^Ada', and not {value!r}")
-    return encode_text(pattern)
+        options = value.options if isinstance(value, Regex) else options_of(value.flags)
+        if isinstance(value.pattern, str) and _OPTIONS.issuperset(options):
+            # Those beside it are refused if it has its own, so it has none for what is done in any case.
+            return encode_value(Regex(value.pattern, options.replace("u", "")))
+    raise NotImplementedError(f"$regex can be had as a text or with the options imsux, and not as {value!r}")
 
 
 def _options(value: Any) -> str:
-    if value != "":
-        raise NotImplementedError(f"$options can't be had in a query, as {value!r}")
+    if not isinstance(value, str) or not _OPTIONS.issuperset(value):
+        raise NotImplementedError(f"$options can be had of the letters imsux, and not as {value!r}")
     return encode_text(value)
 
 

@@ -215,6 +215,9 @@ class Looking(WithFolder):
             ({"a": {"$ne": 1, "$exists": True}}, [1, 3, *range(5, 14)]),
             ({"a": {"$regex": "^1"}}, [3]), ({"a": {"$regex": "^", "$options": ""}}, [3]), ({"a": {"$regex": "^11"}}, []),
             ({"s.x": {"$regex": re.compile("^de")}}, [0]), ({"s.x": {"$regex": Regex(r"^d\-")}}, []),
+            ({"s.x": {"$regex": "e"}}, [0]), ({"s.x": {"$regex": re.compile("^DE", re.I)}}, [0]),
+            ({"s.x": {"$regex": "E", "$options": "i"}}, [0]), ({"s.x": {"$regex": Regex("D E", "ix")}}, [0]),
+            ({"s.x": {"$regex": re.compile("D E", re.I), "$options": ""}}, []),
         ]:
             with self.subTest(query=query):
                 self.assertEqual([found["_id"] for found in many.find(query)], wanted)
@@ -622,11 +625,11 @@ class Absent(WithFolder):
         ):
             with self.assertRaisesRegex(NotImplementedError, next(iter(option))):
                 getattr(collection, method)(*words, **option)
-        for query, name in [({"a": {"$near": 1}}, "$near"), ({"a": {"$regex": "x"}}, "$regex"),
-                            ({"a": {"$regex": re.compile("^x", re.I)}}, "$regex"), ({"a": {"$regex": "^x."}}, "$regex"),
-                            ({"a": {"$regex": "^x", "$options": "i"}}, "$options"),
+        for query, name in [({"a": {"$near": 1}}, "$near"), ({"a": {"$regex": 1}}, "$regex"),
+                            ({"a": {"$regex": re.compile(b"^x")}}, "$regex"), ({"a": {"$regex": Regex("x", "l")}}, "$regex"),
+                            ({"a": {"$regex": "^x", "$options": "z"}}, "$options"),
                             ({"$where": "x"}, "$where"),
-                            ({"a": {"$elemMatch": {"$gt": 1, "$regex": "x"}}}, "$regex"),
+                            ({"a": {"$elemMatch": {"$gt": 1, "$regex": ["x"]}}}, "$regex"),
                             ({"a": {"$elemMatch": {"b": re.compile("x")}}}, "regular"),
                             ({"$expr": {}}, "$expr"), ({"$or": [{"a": {"$bitsAllSet": 1}}]}, "$bitsAllSet"),
                             ({"a": {"$not": {"$slice": 1}}}, "$slice"), ({"a": re.compile("x")}, "regular"),

@@ -1,8 +1,7 @@
 -- Whether the documents of a collection have trees: a walk that takes nothing.
-use Rattle.std.proofs.Common.{◌≡◌, ◌⊎◌, inl, inr, ℕ, List, Result, Ok, Err}
+use Rattle.std.proofs.Common.{◌≡◌, ◌⊎◌, inl, inr, ℕ, List, Ok, Err}
 use Rattle.serde_json.specs.Data.{Data}
 use Rattle.sqlite.specs.State.{State}
-use Rattle.store_table.specs.Rows.{TableRow}
 use Rattle.store_table.specs.Moves.{Moves}
 use Rattle.store_model.specs.Reading.{Documents}
 use Rattle.store_model.specs.Refusal.{refusal}

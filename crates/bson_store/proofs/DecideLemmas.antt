@@ -14,7 +14,7 @@ use Rattle.bson_meaning.specs.Meaning.{norm_in_order, Same}
 use Rattle.bson_meaning.proofs.NowLemmas.{in_order_same, same_in_order}
 use Rattle.store_model.specs.Filter.{under_places, pairs, at, Path, Filter, equals, exists, is_of, no, all_of, any_of, Filters, no_filters, filter, Selects, SelectsAll, SelectsAny}
 use Rattle.store_model.specs.Reading.{Documents}
-use Rattle.store_model.specs.State.{AreKept, IsKept, Picks}
+use Rattle.store_model.specs.State.{AreKept, Picks}
 use Rattle.store_model.proofs.SelectLemmas.{Distinct?, look_up_distinct}
 
 -- ---- one or the other

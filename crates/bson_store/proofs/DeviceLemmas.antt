@@ -1,5 +1,5 @@
 -- Which device failed, by what is reported, whatever the disk does.
-use Rattle.std.proofs.Common.{◌≡◌, inl, inr, ℕ, ◌+◌, List, [], Bool, true, false, Result, Ok, Err, IfErr, refl, sym, ap, ◌∙◌, subst, arith}
+use Rattle.std.proofs.Common.{◌≡◌, inl, inr, ℕ, List, [], Bool, true, false, Result, Ok, Err, IfErr, refl, sym, ap, ◌∙◌, subst, arith}
 use Rattle.bson_base.specs.Device.{Feed, StopsReading, Tally, TookAll}
 use Rattle.bson_base.specs.Kinds.{AreBytes}
 use Rattle.bson_base.specs.declared.whole.ReadAllError.{ReadAllError}
@@ -8,9 +8,8 @@ use Rattle.store_table.specs.declared.fault.Fault.{Fault}
 use Rattle.store_table.specs.declared.fault.Fault.TheVariants as faults
 use Rattle.store_documents.specs.Judging.{Judges}
 use Rattle.store_model.specs.Reading.{ReadsStream}
-use Rattle.store_model.specs.Refusal.{kind_of_reading, refusal, refusal_at}
+use Rattle.store_model.specs.Refusal.{kind_of_reading, refusal}
 use Rattle.store_model.specs.State.{IsName}
-use Rattle.store_model.specs.declared.error.ErrorKind.{ErrorKind}
 use Rattle.store_model.specs.declared.error.ErrorKind.TheVariants as kind
 use Rattle.store_model.specs.declared.error.StoreError.{StoreError}
 use Rattle.bson_store.specs.Export.{Sent}

@@ -1,10 +1,10 @@
 -- Indexes are kept through changes of the rows, one after the other.
-use Rattle.std.proofs.Common.{◌≡◌, inl, ◌++◌, ◌∷◌, [], ℕ, ℤ, List, Bool, true, false, cond, String, Vec, Global, string_bytes, Result, Ok, Err, refl, sym, ap, subst, ◌∙◌}
+use Rattle.std.proofs.Common.{◌≡◌, inl, ◌++◌, ◌∷◌, [], ℕ, ℤ, List, Bool, true, false, cond, String, Vec, Global, string_bytes, refl, sym, ap, subst, ◌∙◌}
 use Rattle.std.proofs.lemmas.Bool.Decides.{Decides-int_eq}
 use Rattle.bson_store.specs.Find.{Finds, Misses, kinds_of}
 use Rattle.bson_store.specs.declared.indexed.indexes.Indexes.{Indexes}
 use Rattle.store_table.specs.Change.{with_change}
-use Rattle.store_table.specs.Rows.{TableRow, is_at, with_body, with_body_at}
+use Rattle.store_table.specs.Rows.{TableRow, is_at, with_body_at}
 use Rattle.store_table.specs.declared.change.Change.{Change}
 use Rattle.store_table.specs.declared.change.Change.TheVariants.{Add, Rewrite, Remove}
 use Rattle.bson_store.specs.Changing.{Forgets, ForgetsRemoved, GivesBody, NoneGives, place_of}

@@ -1,5 +1,5 @@
 -- What a taker did is known whatever the disk does, and no refusal of the store is of the kind of a device.
-use Rattle.std.proofs.Common.{◌≡◌, ◌⊎◌, inl, inr, ℕ, Option, Some, None, is_some, true, false}
+use Rattle.std.proofs.Common.{◌≡◌, ◌⊎◌, inl, inr, ℕ, Option, Some, None, is_some, false}
 use Rattle.store_documents.specs.Answers.{IsOfStore}
 use Rattle.store_model.specs.Refusal.{refusal, refusal_at}
 use Rattle.store_model.specs.declared.error.ErrorKind.{ErrorKind}

@@ -1,7 +1,7 @@
 //! Indexes of collections on paths. They change no answer: a question that asks for a value at such a path reads fewer
 //! documents.
 
-ghost use Rattle.std.specs.Prelude.{◌≡◌, ◌↔◌, ℕ, List, IsTrue, OnOk};
+ghost use Rattle.std.specs.Prelude.{◌≡◌, ◌↔◌, ◌≤ℤ◌, ℕ, List, IfSome, IsTrue, OnOk};
 ghost use Rattle.sqlite.specs.State.{HasCleanDisk};
 ghost use Rattle.store_question.specs.Filters.{path_of};
 ghost use Rattle.store_model.specs.Filter.{Path};
@@ -12,6 +12,7 @@ ghost use Rattle.bson_store.specs.Calls.{AddsIndex, HasIndex, store_state, Relat
 ghost use Rattle.bson_store.specs.Questions.{Indexed};
 
 use crate::error::fault_refusal;
+use crate::indexed::Range;
 use crate::store::{Store, good_name};
 use sqlite::Alter;
 use store_model::StoreError;
@@ -70,5 +71,21 @@ impl<S: Alter + Drop> Store<S> {
         ensures { IsTrue result ↔ HasIndex self.now name.now (path_of path.now) }
     {
         self.table.has_index(name, path)
+    }
+
+    /// The part (`indexed::part_of`) of the document that comes behind `count` others of those of the collection `name`
+    /// that lie in a range, by an index on its path: from the least part on, or from the greatest on. None: no index is
+    /// on the path, or there are no more than `count`. Documents whose way along the path meets an array or a decimal
+    /// aren't counted.
+    pub fn part_behind(
+        &self,
+        name: &str,
+        range: &Range,
+        count: usize,
+        descending: bool,
+    ) -> Option<i64>
+        ensures { IfSome result (λ q. (range.now.low ≤ℤ q) × (q ≤ℤ range.now.high)) }
+    {
+        self.table.part_behind(name, range, count, descending)
     }
 }

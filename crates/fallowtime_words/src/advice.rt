@@ -101,7 +101,7 @@ const DATE: &str =
 
 /// What helps if a pattern isn't one that is taken.
 const PATTERN: &str =
-    "$regex takes a fixed beginning alone, {\"$regex\":\"^Ad\"}, and no options; find and jq behind it search in texts";
+    "$regex takes no pattern that looks ahead, behind or back; {\"$regex\":\"^Ad\",\"$options\":\"i\"} has options of imsxu";
 
 /// What helps if an array is in the place of a document.
 const ARRAY: &str = "DOC is one document; import COLL FILE.json takes an array of them";

@@ -324,8 +324,8 @@ const FIND: &str = "
 Prints the documents of the collection COLL that QUERY selects, or all of them,
 a line of relaxed Extended JSON each. QUERY is in MongoDB's language: paths with
 values, $eq, $ne, $gt, $gte, $lt, $lte, $in, $nin, $all, $elemMatch, $size,
-$exists, $type, $mod, $regex of a fixed beginning and $not, joined by $and, $or
-and $nor; an array is also its items.
+$exists, $type, $mod, $regex with $options and $not, joined by $and, $or and
+$nor; an array is also its items.
 
   --sort KEYS      prints them in the order of the values at paths: by
                    price:-1,name the greatest price is first, and names of one

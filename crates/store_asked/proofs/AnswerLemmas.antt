@@ -6,8 +6,9 @@ use Rattle.bson_order.specs.Wholes.{part_of}
 use Rattle.store_model.specs.Filter.{Path, pairs, under_places}
 use Rattle.store_model.specs.Reading.{Documents}
 use Rattle.store_model.specs.State.{AreKept}
-use Rattle.store_question.specs.Asked.{Asked, Askeds, at, whole, exists, is_of, lies, has_size, leaves, begins, has_item, no, all_of, any_of, no_asked, asked, Along, Answers, AnswersAll, AnswersAny, AnyMember, AtEnd, AtMember, AtPlace, HasItem, HasSize, IntoDocument, Through, Under, begins_so, count, leaves_so, lies_to, text_in}
+use Rattle.store_question.specs.Asked.{Asked, Askeds, at, whole, exists, is_of, lies, has_size, leaves, begins, matches, has_item, no, all_of, any_of, no_asked, asked, Along, Answers, AnswersAll, AnswersAny, AnyMember, AtEnd, AtMember, AtPlace, HasItem, HasSize, IntoDocument, Through, Under, begins_so, count, leaves_so, lies_to, text_in}
 use Rattle.store_question.specs.Keeps.{Keeps}
+use Rattle.store_question.specs.Patterns.{matches_so}
 use Rattle.bson_store.proofs.DecideLemmas.{Told, both, either, denial, nat_told, bytes_told, kind_told}
 
 -- ---- one value
@@ -92,6 +93,7 @@ mutual
   answers_told (has_size n) o = size_told n o
   answers_told (leaves d r) o = truth_told (leaves_so d r (option_and_then part_of o))
   answers_told (begins t) o = truth_told (begins_so t (option_and_then text_in o))
+  answers_told (matches options source) o = truth_told (matches_so options source (option_and_then text_in o))
   answers_told (has_item q) o = item_told (λ v. Answers q (Some v)) (λ v. answers_told q (Some v)) o
   answers_told (no q) o = denial (answers_told q o)
   answers_told (all_of qs) o = all_told qs o

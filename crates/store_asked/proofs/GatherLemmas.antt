@@ -10,11 +10,10 @@ use Rattle.store_model.specs.Reading.{Documents}
 use Rattle.store_model.specs.declared.error.StoreError.{StoreError}
 use Rattle.store_pipeline.proofs.SortLemmas.{part_in_first, unmoved}
 use Rattle.store_pipeline.proofs.PlaceLemmas.{zip_take}
-use Rattle.store_pipeline.specs.Bodies.{AreBodies, ArrangedBy, AreLent, IsBody, keys_of}
-use Rattle.store_pipeline.specs.Held.{top_bodies, top_limit}
+use Rattle.store_pipeline.specs.Bodies.{AreBodies, AreLent, IsBody, keys_of}
+use Rattle.store_pipeline.specs.Held.{top_bodies}
 use Rattle.store_pipeline.specs.Order.{Sorts, cut}
 use Rattle.store_pipeline.specs.declared.sorted.arrangement.Arrangement.{Arrangement}
-use Rattle.store_pipeline.specs.declared.sorted.keys.SortKey.{SortKey}
 use Rattle.bson_store.specs.Export.{bytes_of_each}
 use Rattle.bson_store.specs.Questions.{IsSettled}
 use Rattle.store_asked.specs.Arranged.{AreArranged, Gathers, Holding, arrangement_of}

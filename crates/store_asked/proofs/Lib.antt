@@ -12,3 +12,6 @@ mod PathLemmas
 mod AnswerFrontLemmas
 mod SpanLemmas
 mod RangeLemmas
+mod BehindLemmas
+mod PlainKeyLemmas
+mod NearLemmas

@@ -1,6 +1,6 @@
 -- Ranges in which a document lies that answers.
-use Rattle.std.proofs.Common.{◌≡◌, ◌⊎◌, inl, inr, ◌<◌, ℕ, List, [], ◌∷◌, ◌++◌, Bool, map, length, get_or, Option, Some, None, Result, Ok, Err, Vec, Global, IsTrue, OnOk, refl, sym, ap, ◌∙◌, subst}
-use Rattle.std.specs.Prelude.{Box, IsSomeAnd, String, option_to_list}
+use Rattle.std.proofs.Common.{◌≡◌, ◌⊎◌, inl, inr, ◌<◌, ℕ, List, [], ◌∷◌, ◌++◌, Bool, map, length, get_or, Option, Some, None, Result, Ok, Err, Vec, Global, IsTrue, OnOk, refl, sym, subst}
+use Rattle.std.specs.Prelude.{Box, IsSomeAnd, String}
 use Rattle.std.specs.declared.alloc.AllocError.{AllocError}
 use Rattle.std.proofs.lemmas.List.{append_assoc}
 use Rattle.std.proofs.Math.Seq.{take-append_seam}

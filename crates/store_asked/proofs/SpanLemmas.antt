@@ -1,5 +1,5 @@
 -- Where a value that answers lies.
-use Rattle.std.proofs.Common.{◌≡◌, ◌≢◌, ◌⊎◌, inl, inr, ◌<◌, ◌≤◌, ◌+◌, ℕ, zero, suc, ℤ, List, [], ◌∷◌, ◌++◌, map, drop, length, get_or, Bool, true, false, ◌==◌, if◌then◌else◌, Option, Some, None, Vec, Global, IsTrue, refl, sym, ap, ◌∙◌, subst, arith, add-one}
+use Rattle.std.proofs.Common.{◌≡◌, ◌⊎◌, inl, inr, ◌<◌, ◌≤◌, ◌+◌, ℕ, zero, suc, ℤ, List, [], ◌∷◌, map, drop, length, get_or, Bool, true, false, ◌==◌, if◌then◌else◌, Option, Some, None, IsTrue, refl, sym, ap, ◌∙◌, subst, arith, add-one}
 use Rattle.std.specs.Int.{w64}
 use Rattle.std.specs.Prelude.{◌≤ℤ◌, FitsSigned, IfSome, IsSomeAnd, unwrap_or}
 use Rattle.std.specs.Ordering.{is_ge, is_le}
@@ -15,7 +15,7 @@ use Rattle.bson_raw.specs.Convert.{SpellsRawValue}
 use Rattle.bson_raw.specs.Raw.{raw_kind, ref_value}
 use Rattle.bson_raw.specs.declared.bson_ref.RawBsonRef.{RawBsonRef}
 use Rattle.store_question.specs.Asked.{Answers, AnswersAll, AnswersAny, Asked, Askeds, asked, no_asked, holds, lies, lies_apart, lies_to, same_truth}
-use Rattle.store_question.specs.Reads.{Form, ReadEach, Reads, form_of, forms_of}
+use Rattle.store_question.specs.Reads.{ReadEach, Reads, form_of, forms_of}
 use Rattle.store_question.specs.declared.question.Comparison.{Comparison}
 use Rattle.store_question.specs.declared.question.Comparison.TheVariants as lies_so
 use Rattle.store_question.specs.declared.question.Question.{Question}

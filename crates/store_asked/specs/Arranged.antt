@@ -1,7 +1,6 @@
 -- What is gathered of documents, in an order and of that a part.
-use Rattle.std.specs.Prelude.{◌≡◌, ◌+◌, ℕ, List, Some, Vec}
+use Rattle.std.specs.Prelude.{◌≡◌, ◌+◌, ℕ, Some, Vec}
 use Rattle.std.specs.declared.alloc.Global.{Global}
-use Rattle.bson_base.specs.Value.{Members}
 use Rattle.store_model.specs.Reading.{Documents}
 use Rattle.store_pipeline.specs.Bodies.{AreBodies, ArrangedBy, keys_of}
 use Rattle.store_pipeline.specs.Held.{Holds, top_keys, top_limit}
@@ -24,3 +23,7 @@ arrangement_of t = t.arrangement.now
 
 abbrev pub Gathers : Gathering → Gathering → Documents → Type 0
 Gathers first t ds = (arrangement_of t ≡ arrangement_of first) × Holding (arrangement_of t) t.held ds
+
+-- how many are skipped and taken
+abbrev pub IsLast : Arrangement → ℕ → Type 0
+IsLast a n = (limit : ℕ) × (a.limit ≡ Some limit) × (n ≡ a.skip + limit)

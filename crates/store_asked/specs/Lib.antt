@@ -5,3 +5,4 @@ pub mod Fronts
 pub mod Reads
 pub mod Front
 pub mod Spans
+pub mod Near

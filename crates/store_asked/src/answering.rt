@@ -7,9 +7,11 @@ use std::alloc::Global;
 use store_question::{Question, answers};
 use store_table::pages::RowRef;
 
-/// Hands on the documents that answer a question, and none of the others, to another taker.
+/// Hands on the documents that answer a question, and none of the others, to another taker. A pattern in the question is
+/// searched for with memory of the allocator.
 #[derive(Drop)]
 pub struct Answering<'a, T> {
+    pub alloc: Global,
     pub question: &'a Question,
     pub taker: T,
 }
@@ -20,7 +22,8 @@ impl<'a, T: Take> Take for Answering<'a, T> {
     ghost took = { λ first t out. TookAnswers T.took first t out };
 
     fn take(&mut self, document: RawDocument<'_>) -> Result<(), StoreError> {
-        if answers(document, self.question) {
+        let held = answers(self.alloc, document, self.question)?;
+        if held {
             self.taker.take(document)?;
         }
         Ok(())
@@ -38,7 +41,8 @@ impl<'a, T: TakeRow> TakeRow for Answering<'a, T> {
         row: &RowRef<'_>,
         document: RawDocument<'_>,
     ) -> Result<(), StoreError> {
-        if !answers(document, self.question) {
+        let held = answers(self.alloc, document, self.question)?;
+        if !held {
             return Ok(());
         }
         self.taker.take_row(alloc, row, document)?;

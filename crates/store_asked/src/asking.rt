@@ -45,7 +45,11 @@ pub fn take_answers<S: Alter + Drop, T: Take + Drop>(
         filter: &filter,
         ranges: ranges.as_slice(),
     };
-    let answering = Answering { question, taker };
+    let answering = Answering {
+        alloc,
+        question,
+        taker,
+    };
     let taken = store.take_passing(name, &front, answering)?;
     Ok(taken.taker)
 }
@@ -67,7 +71,11 @@ pub fn look_up_answers<P: Pages + Drop, T: TakeRow + Drop>(
     ensures stays { Stays P.Pages store.old store.new }
 {
     let everything = select_all(alloc);
-    let answering = Answering { question, taker };
+    let answering = Answering {
+        alloc,
+        question,
+        taker,
+    };
     let taken = store.take_selected(name, &everything, answering)?;
     Ok(taken.taker)
 }

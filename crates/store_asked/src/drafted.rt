@@ -17,6 +17,7 @@ use crate::answering::Answering;
 use bson_raw::RawDocument;
 use bson_store::{DraftedEdits, ErrorKind, Store, StoreError, Take, drafted_bodies};
 use sqlite::Alter;
+use std::alloc::Global;
 use store_question::Question;
 
 /// Hands the document of a body to a taker.
@@ -54,6 +55,7 @@ fn take_bodies<T: Take + Drop>(bodies: &[Vec<u8>], taker: T) -> Result<T, StoreE
 ///
 /// Refused by BadName, Memory and Database, and as the taker refuses a document.
 pub fn take_drafted<S: Alter + Drop, T: Take + Drop>(
+    alloc: Global,
     store: &mut Store<S>,
     edits: &DraftedEdits,
     name: &str,
@@ -69,7 +71,11 @@ pub fn take_drafted<S: Alter + Drop, T: Take + Drop>(
     ensures crash { AddsNothing (store_state S.Store store.old) (store_state S.Store store.new) }
 {
     let bodies = drafted_bodies(store, edits, name)?;
-    let answering = Answering { question, taker };
+    let answering = Answering {
+        alloc,
+        question,
+        taker,
+    };
     let taken = take_bodies(bodies.as_slice(), answering)?;
     Ok(taken.taker)
 }

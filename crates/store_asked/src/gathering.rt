@@ -1,10 +1,10 @@
 //! The documents of a part in an order, gathered while they come.
 
-ghost use Rattle.std.specs.Prelude.{◌≡◌, ◌+◌, ◌++◌, ◌∷◌, [], ℕ, IfOk, IfSome, OnOk, Some, map};
+ghost use Rattle.std.specs.Prelude.{◌≡◌, ◌++◌, ◌∷◌, [], IfOk, IfSome, OnOk, map};
 ghost use Rattle.bson_store.specs.Export.{bytes_of_each};
 ghost use Rattle.store_model.specs.Reading.{Documents};
 ghost use Rattle.store_pipeline.specs.Bodies.{AreBodies, OfBody};
-ghost use Rattle.store_asked.specs.Arranged.{AreArranged};
+ghost use Rattle.store_asked.specs.Arranged.{AreArranged, IsLast};
 
 use crate::first::First;
 use crate::refusing::check_row;
@@ -111,8 +111,8 @@ impl<'a> TakeRow for Gathering<'a> {
 }
 
 /// How many are skipped and taken together, if that is limited and a number of the machine.
-fn last_of(arrangement: &Arrangement) -> Option<usize>
-    ensures { IfSome result (λ n. (limit : ℕ) × (arrangement.now.limit ≡ Some limit) × (n ≡ arrangement.now.skip + limit)) }
+pub(crate) fn last_of(arrangement: &Arrangement) -> Option<usize>
+    ensures { IfSome result (λ n. IsLast arrangement.now n) }
 {
     arrangement.skip.checked_add(arrangement.limit?)
 }

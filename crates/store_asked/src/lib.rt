@@ -14,6 +14,7 @@ mod gathering;
 mod joining;
 pub mod laws;
 mod names;
+mod nearing;
 mod opening;
 mod ranges;
 mod refusing;

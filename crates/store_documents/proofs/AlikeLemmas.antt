@@ -30,7 +30,7 @@ use Rattle.bson_model.specs.declared.extjson.de.Error.{Error as Stored}
 use Rattle.bson_json_read.specs.Outcome as outcome
 use Rattle.bson_json_read.specs.Reading as full
 use Rattle.bson_json_read.specs.declared.error.Error.{Error as Full}
-use Rattle.store_documents.specs.Reads.{AreBodies, IsAlike, ReadsUnsigned, ReadsWrapped}
+use Rattle.store_documents.specs.Reads.{AreTwoMembers, IsAlike, ReadsUnsigned, ReadsWrapped}
 
 -- ---- one step after the other
 
@@ -73,7 +73,7 @@ named_alike f g h k j s e =
 -- ---- bodies of two keys
 
 way_by : (b c : Bool) (k l m n : List ℕ) (i j : Json) (p : Json × Json) → (bytes_eq m k && bytes_eq n l) ≡ b → (bytes_eq m l && bytes_eq n k) ≡ c
-    → full.either_way k l m i n j ≡ Ok p → AreBodies k l p (json.member m i (json.member n j json.no_members))
+    → full.either_way k l m i n j ≡ Ok p → AreTwoMembers k l p (json.member m i (json.member n j json.no_members))
 way_by true c k l m n i j p e f h =
     let t = and_parts (bytes_eq m k) (bytes_eq n l) e in
     let first : m ≡ k = equal_keys m k t.0 in
@@ -88,16 +88,16 @@ way_by false true k l m n i j p e f h =
     inr (rw (first, second, sym got) refl)
 way_by false false k l m n i j p e f h = absurd (cc (rw (e, f) at h))
 
-bodies_ok : (k l : List ℕ) (js : json.Members) (p : Json × Json) → full.bodies_in k l js ≡ Ok p → AreBodies k l p js
+bodies_ok : (k l : List ℕ) (js : json.Members) (p : Json × Json) → full.bodies_in k l js ≡ Ok p → AreTwoMembers k l p js
 bodies_ok k l (json.member m i (json.member n j json.no_members)) p h = way_by (bytes_eq m k && bytes_eq n l) (bytes_eq m l && bytes_eq n k) k l m n i j p refl refl h
 bodies_ok k l _ p h = absurd (cc h)
 
-turned : (k l : List ℕ) (p : Json × Json) (js : json.Members) → AreBodies k l p js → AreBodies l k (p.1, p.0) js
+turned : (k l : List ℕ) (p : Json × Json) (js : json.Members) → AreTwoMembers k l p js → AreTwoMembers l k (p.1, p.0) js
 turned k l p js (inl e) = inr e
 turned k l p js (inr e) = inl e
 
 -- the tree has the lesser key first, in whichever order they come
-in_order : (k l : List ℕ) → slice_cmp nat_cmp k l ≡ Less → slice_cmp nat_cmp l k ≡ Greater → (p : Json × Json) (js : json.Members) → AreBodies k l p js
+in_order : (k l : List ℕ) → slice_cmp nat_cmp k l ≡ Less → slice_cmp nat_cmp l k ≡ Greater → (p : Json × Json) (js : json.Members) → AreTwoMembers k l p js
     → (a b : Data) → of_json p.0 ≡ Some a → of_json p.1 ≡ Some b → of_json (json.object js) ≡ Some (object (member k a (member l b no_members)))
 in_order k l less greater p js (inl is) a b e f =
     let tree : of_json (json.object js) ≡ Some (object (put l b (member k a no_members))) = rw (is, e, f) refl in
@@ -154,7 +154,7 @@ regex_alike _ s e = absurd (cc e)
 abbrev timed : ℕ → ℕ → Result (ℕ × ℕ) Stored
 timed i t = Ok (t, i)
 
-timestamp_told : (js : json.Members) (p : Json × Json) (i t : ℕ) → AreBodies (codes "i") (codes "t") p js → ReadsUnsigned p.0 i → ReadsUnsigned p.1 t → ReadsWrapped of_timestamp (json.object js) (scalar (timestamp t i))
+timestamp_told : (js : json.Members) (p : Json × Json) (i t : ℕ) → AreTwoMembers (codes "i") (codes "t") p js → ReadsUnsigned p.0 i → ReadsUnsigned p.1 t → ReadsWrapped of_timestamp (json.object js) (scalar (timestamp t i))
 timestamp_told js p i t bodies first second = (
   object (member (codes "i") first.0 (member (codes "t") second.0 no_members)),
   in_order (codes "i") (codes "t") refl refl p js bodies first.0 second.0 first.1 second.1,
@@ -162,11 +162,11 @@ timestamp_told js p i t bodies first second = (
       ∙ ap (λ r. stored.scalar_of ((r >>= timed i) >>= λ q. Ok (timestamp q.0 q.1))) second.2,
 )
 
-numbers_in : (k l : List ℕ) (p : Json × Json) (js : json.Members) → AreBodies k l p js → MembersHaveNumbers js → HasNumbers p.0 × HasNumbers p.1
+numbers_in : (k l : List ℕ) (p : Json × Json) (js : json.Members) → AreTwoMembers k l p js → MembersHaveNumbers js → HasNumbers p.0 × HasNumbers p.1
 numbers_in k l p js (inl is) h = let g = subst MembersHaveNumbers is h in (g.0, g.1.0)
 numbers_in k l p js (inr is) h = let g = subst MembersHaveNumbers is h in (g.1.0, g.0)
 
-pub timestamp_read : (j : Json) (js : json.Members) (p : Json × Json) (i t : ℕ) → j ≡ json.object js → AreBodies (codes "i") (codes "t") p js
+pub timestamp_read : (j : Json) (js : json.Members) (p : Json × Json) (i t : ℕ) → j ≡ json.object js → AreTwoMembers (codes "i") (codes "t") p js
     → (HasNumbers p.0 → ReadsUnsigned p.0 i) → (HasNumbers p.1 → ReadsUnsigned p.1 t) → HasNumbers j → ReadsWrapped of_timestamp j (scalar (timestamp t i))
 timestamp_read j js p i t is bodies first second h =
     let both = numbers_in (codes "i") (codes "t") p js bodies (subst HasNumbers is h) in

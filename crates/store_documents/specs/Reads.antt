@@ -43,8 +43,8 @@ abbrev pub ReadsUnsigned : Json → ℕ → Type 0
 ReadsUnsigned j n = (d : Data) × (of_json j ≡ Some d) × (u32_of d ≡ Ok n)
 
 -- the members are these two bodies under these keys, in either order
-abbrev pub AreBodies : List ℕ → List ℕ → Json × Json → json.Members → Type 0
-AreBodies k l p js = (js ≡ json.member k p.0 (json.member l p.1 json.no_members)) ⊎ (js ≡ json.member l p.1 (json.member k p.0 json.no_members))
+abbrev pub AreTwoMembers : List ℕ → List ℕ → Json × Json → json.Members → Type 0
+AreTwoMembers k l p js = (js ≡ json.member k p.0 (json.member l p.1 json.no_members)) ⊎ (js ≡ json.member l p.1 (json.member k p.0 json.no_members))
 
 -- the lent tree is this one
 abbrev pub IsTree : Bor (Tree Global) → Json → Type 0

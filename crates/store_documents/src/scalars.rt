@@ -11,7 +11,7 @@ ghost use Rattle.bson_model.specs.JsonKeys.{of_timestamp, reserved_of};
 ghost use Rattle.bson_model.specs.JsonRead.{u32_from};
 ghost use Rattle.bson_model.specs.JsonWrappers.{reserved_key};
 ghost use Rattle.bson_model.specs.View.{view};
-ghost use Rattle.store_documents.specs.Reads.{AreBodies, IsAlike, ReadsJson, ReadsUnsigned, ReadsWrapped};
+ghost use Rattle.store_documents.specs.Reads.{AreTwoMembers, IsAlike, ReadsJson, ReadsUnsigned, ReadsWrapped};
 
 use crate::unread::Unread;
 use bson_json_read::{Error, read_wrapped};
@@ -63,7 +63,7 @@ fn unsigned(alloc: Global, value: &Value<'_>) -> Option<u32>
 fn increment_and_time<'v, 'a>(
     members: &'v [(&'a str, Value<'a>)],
 ) -> Option<(&'v Value<'a>, &'v Value<'a>)>
-    ensures { IfSome result (λ p. AreBodies (codes "i") (codes "t") (value_view p.0.now, value_view p.1.now) (members_view members.now)) }
+    ensures { IfSome result (λ p. AreTwoMembers (codes "i") (codes "t") (value_view p.0.now, value_view p.1.now) (members_view members.now)) }
 {
     match members {
         [(first, one), (second, other)] => {

@@ -1,9 +1,9 @@
 -- The document that has a number of documents.
-use Rattle.std.proofs.Common.{◌≡◌, ◌⊎◌, inl, inr, ◌<◌, ◌^◌, ◌∙◌, ℕ, zero, suc, List, [], ◌∷◌, length, Bool, true, false, cond, pos, refl, sym, ap, arith, Vec}
+use Rattle.std.proofs.Common.{◌≡◌, ◌<◌, ◌^◌, ℕ, zero, suc, List, [], ◌∷◌, length, Bool, true, false, cond, pos, refl, arith, Vec}
 use Rattle.std.proofs.lemmas.Bool.Decides.{nat_tests}
 use Rattle.std.specs.Prelude.{IsUtf8, nat_lt}
 use Rattle.std.specs.declared.alloc.Global.{Global}
-use Rattle.bson_base.specs.Value.{Value, scalar, int32, int64, Members, member, no_members, document}
+use Rattle.bson_base.specs.Value.{scalar, int32, int64, member, no_members, document}
 use Rattle.store_model.specs.Reading.{Documents}
 use Rattle.store_pipeline.proofs.PlaceLemmas.{zip_long}
 use Rattle.store_pipeline.specs.Bodies.{AreBodies, IsBody}

@@ -1,5 +1,5 @@
 -- What comes back from its bytes if it can be written: documents of bodies, values in them, and what is put in and taken out.
-use Rattle.std.proofs.Common.{◌≡◌, ◌<◌, ◌^◌, ℕ, List, [], ◌∷◌, Option, Some, None, subst, arith, lit<}
+use Rattle.std.proofs.Common.{◌≡◌, ℕ, List, Some, arith}
 use Rattle.std.specs.List.{AllByRecursion}
 use Rattle.bson_base.proofs.MemberLemmas.{distinct_at, key_at, put_distinct, put_each, without_distinct, without_each}
 use Rattle.bson_base.proofs.PartLemmas.{each_part}

@@ -3,12 +3,12 @@ use Rattle.std.proofs.Common.{◌≡◌, ◌∙◌, ◌⊎◌, inl, inr, ◌+◌
 use Rattle.std.proofs.lemmas.List.{map-append, take_all, take_more}
 use Rattle.std.proofs.lemmas.List.Elements.{filter_map-append}
 use Rattle.std.proofs.lemmas.Str.{IsUtf8-from_ascii, IsUtf8-string_bytes}
-use Rattle.std.specs.List.{AllByRecursion, cons_option, filter_map}
+use Rattle.std.specs.List.{cons_option, filter_map}
 use Rattle.std.specs.declared.alloc.Global.{Global}
 use Rattle.bson_base.proofs.MemberLemmas.{put_distinct, put_each}
 use Rattle.bson_base.specs.Kinds.{IsCleanScalar, IsRangedScalar}
 use Rattle.bson_base.specs.Value.{Members, Value, document, no_members, member, put}
-use Rattle.bson_model.specs.View.{content, view}
+use Rattle.bson_model.specs.View.{view}
 use Rattle.bson_model.specs.declared.bson.Bson.{Bson}
 use Rattle.bson_model.specs.declared.document.Document.{Document}
 use Rattle.store_pipeline.proofs.OnceLemmas.{all_more}
@@ -29,7 +29,7 @@ use Rattle.store_pipeline.specs.Grouped.{AreGrouped, ReturnsValue, key_of}
 use Rattle.store_pipeline.specs.Groups.{AreGroups, accumulated, given, group_of, groups_of, of_key, values_for, with_fields}
 use Rattle.store_pipeline.specs.Operands.{taken}
 use Rattle.store_pipeline.specs.Stages.{Makes, Stops}
-use Rattle.store_pipeline.specs.Taken.{AllFaithful, AreTrees, IfAnyIsFaithful, IsTreeIfAny}
+use Rattle.store_pipeline.specs.Taken.{AreTrees, IsTreeIfAny}
 use Rattle.store_pipeline.specs.declared.error.PipelineError.{PipelineError}
 use Rattle.store_pipeline.specs.declared.error.PipelineError.TheVariants as why
 use Rattle.store_pipeline.specs.declared.grouping.KeyGroup.{KeyGroup}

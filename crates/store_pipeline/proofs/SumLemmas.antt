@@ -1,10 +1,10 @@
 -- Sums, counts and the best one of values that are gone through from the front.
-use Rattle.std.proofs.Common.{◌≡◌, ◌∙◌, ◌⊎◌, inl, ◌+◌, ◌-◌, ◌<◌, ◌≤◌, ◌+ℤ◌, ℕ, suc, pos, Bor, List, [], ◌∷◌, length, get_or, map, drop, slice_get, Bool, true, false, not, cond, Option, Some, None, option_map, option_copied, Result, Ok, Err, refl, sym, ap, arith}
+use Rattle.std.proofs.Common.{◌≡◌, ◌∙◌, inl, ◌+◌, ◌-◌, ◌<◌, ◌≤◌, ◌+ℤ◌, ℕ, suc, Bor, List, [], ◌∷◌, length, get_or, map, drop, slice_get, Bool, true, false, not, cond, Option, Some, None, option_map, option_copied, Result, Ok, Err, refl, sym, ap, arith}
 use Rattle.std.specs.Prelude.{unwrap_or}
 use Rattle.std.specs.List.{filter}
 use Rattle.std.specs.Float.{binary64}
 use Rattle.std.specs.Float.Ieee.{add}
-use Rattle.bson_base.specs.Value.{Value, scalar, null, int32}
+use Rattle.bson_base.specs.Value.{Value, scalar, null}
 use Rattle.bson_model.specs.View.{view}
 use Rattle.bson_model.specs.declared.bson.Bson.{Bson}
 use Rattle.store_pipeline.specs.Order.{best, better}

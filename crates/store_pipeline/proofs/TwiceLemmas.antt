@@ -4,7 +4,7 @@ use Rattle.bson_base.proofs.MemberLemmas.{look_up-put, same_key}
 use Rattle.bson_base.specs.Value.{Value, document, Members, no_members, member, look_up, put}
 use Rattle.store_update.specs.Number.{onward}
 use Rattle.store_update.specs.Plan.{Path}
-use Rattle.store_update.specs.Update.{altered, found, inside, settled_inside}
+use Rattle.store_update.specs.Update.{altered, found, settled_inside}
 use Rattle.store_update.specs.declared.error.UpdateError.{UpdateError}
 use Rattle.store_pipeline.specs.Unwound.{or_same, with_at}
 

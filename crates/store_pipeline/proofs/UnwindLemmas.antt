@@ -1,6 +1,6 @@
 -- Documents that are taken apart, as their trees are.
-use Rattle.std.proofs.Common.{◌≡◌, ◌≢◌, ◌⊎◌, inl, inr, ◌∙◌, ℕ, List, [], ◌∷◌, map, Bool, true, false, not, ◌||◌, Option, Some, None, Result, Ok, Err, refl, sym, ap, ap₂, subst}
-use Rattle.bson_base.specs.Value.{Value, scalar, array, document, scoped_code, Items, Members, look_up}
+use Rattle.std.proofs.Common.{◌≡◌, ◌≢◌, ◌⊎◌, inl, inr, ◌∙◌, ℕ, List, [], ◌∷◌, map, Bool, true, not, ◌||◌, Option, Some, None, Result, Ok, Err, refl, sym, ap, ap₂, subst}
+use Rattle.bson_base.specs.Value.{Value, array, document, Items, Members}
 use Rattle.bson_bytes.proofs.OneTreeLemmas.{one_meaning}
 use Rattle.bson_bytes.proofs.SettledLemmas.{comes_back}
 use Rattle.bson_bytes.specs.Spells.{Means}
@@ -10,7 +10,7 @@ use Rattle.store_model.specs.Reading.{Documents}
 use Rattle.store_pipeline.specs.Bodies.{IsBody}
 use Rattle.store_update.proofs.UpdateLemmas.{values_of}
 use Rattle.store_update.specs.Plan.{Path, path_of}
-use Rattle.store_update.specs.Update.{Tells, found}
+use Rattle.store_update.specs.Update.{found}
 use Rattle.store_update.specs.declared.error.UpdateError.{UpdateError}
 use Rattle.store_update.specs.declared.error.UpdateError.TheVariants.{Memory}
 use Rattle.store_pipeline.specs.Groups.{is_null}

@@ -1,7 +1,7 @@
 -- What a document is taken apart into comes back from its bytes, as the document does.
-use Rattle.std.proofs.Common.{◌≡◌, ℕ, List, [], ◌∷◌, Bool, true, false, not, ◌||◌, Option, Some, None, Result, Ok, Err, refl, subst}
+use Rattle.std.proofs.Common.{◌≡◌, [], ◌∷◌, Bool, true, false, not, ◌||◌, Option, Some, None, Result, Ok, Err, refl, subst}
 use Rattle.std.specs.Prelude.{IfSome}
-use Rattle.bson_base.specs.Value.{Value, scalar, array, document, scoped_code, Items, no_items, item, Members, look_up}
+use Rattle.bson_base.specs.Value.{Value, array, document, Items, no_items, item, Members, look_up}
 use Rattle.store_update.specs.Arrays.{values}
 use Rattle.store_update.specs.Number.{onward}
 use Rattle.store_update.specs.Plan.{Path, path_of}

@@ -1,5 +1,5 @@
 -- Documents that stages make, written one after the other, down to the first that can't be.
-use Rattle.std.proofs.Common.{◌≡◌, ◌∙◌, ◌⊎◌, inl, inr, ◌+◌, ◌<◌, ◌≤◌, ℕ, suc, List, [], ◌∷◌, ◌++◌, take, drop, length, get_or, Result, Ok, Err, Vec, refl, sym, ap, subst, append_assoc, append-nil}
+use Rattle.std.proofs.Common.{◌≡◌, ◌∙◌, inl, inr, ◌+◌, ◌<◌, ◌≤◌, ℕ, suc, List, [], ◌∷◌, ◌++◌, take, drop, length, get_or, Result, Ok, Err, Vec, refl, sym, ap, subst, append_assoc, append-nil}
 use Rattle.std.specs.List.{AllByRecursion, flat_map}
 use Rattle.std.specs.Prelude.{MatchResult}
 use Rattle.std.specs.declared.alloc.Global.{Global}
@@ -9,9 +9,8 @@ use Rattle.bson_base.specs.Value.{Members, no_members, document, levels}
 use Rattle.bson_meaning.specs.Gate.{level_limit}
 use Rattle.store_documents.specs.Bodies as kept
 use Rattle.store_documents.specs.Bodies.{IsUnwritten}
-use Rattle.store_model.specs.Reading.{Documents, IsKeepable, IsUnkeepable}
+use Rattle.store_model.specs.Reading.{Documents, IsKeepable}
 use Rattle.store_model.specs.declared.error.ErrorKind.{ErrorKind}
-use Rattle.store_model.specs.declared.error.ErrorKind.TheVariants.{Memory}
 use Rattle.store_pipeline.proofs.PlaceLemmas.{zip_at, zip_long, zip_more}
 use Rattle.store_pipeline.specs.Bodies.{AreBodies, IsBody}
 use Rattle.store_pipeline.specs.Faithful.{AnswersMade, AnswersWritten, AreFaithful, BodiesOf, IsFaithful}

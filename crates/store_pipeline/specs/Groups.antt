@@ -1,5 +1,5 @@
 -- What is made of groups of documents (MongoDB, $group).
-use Rattle.std.specs.Prelude.{◌≡◌, pos, ◌+ℤ◌, List, [], ◌∷◌, length, map, Bool, true, false, not, Option, Some, None, unwrap_or, string_bytes, Result, Ok, Err}
+use Rattle.std.specs.Prelude.{◌≡◌, pos, ◌+ℤ◌, List, [], ◌∷◌, length, map, Bool, true, false, not, Option, Some, None, unwrap_or, string_bytes, Result, Ok}
 use Rattle.std.specs.List.{filter, filter_map}
 use Rattle.std.specs.Float.{binary64}
 use Rattle.std.specs.Float.Ieee.{add}

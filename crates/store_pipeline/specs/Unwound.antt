@@ -1,5 +1,5 @@
 -- What a document is taken apart into (MongoDB, $unwind).
-use Rattle.std.specs.Prelude.{List, [], ◌∷◌, map, Bool, not, ◌||◌, if◌then◌else◌, Option, Some, None, Result, Ok, Err}
+use Rattle.std.specs.Prelude.{[], ◌∷◌, map, Bool, not, ◌||◌, if◌then◌else◌, Option, Some, None, Result, Ok, Err}
 use Rattle.bson_base.specs.Value.{Value, array, document, Items, no_items, item, Members}
 use Rattle.store_model.specs.Reading.{Documents}
 use Rattle.store_update.specs.Arrays.{values}

@@ -22,7 +22,7 @@ fn make(alloc: Global, stage: &Stage, bodies: Vec<Vec<u8>>) -> Result<Vec<Vec<u8
     ensures { AnswersStage stage.now bodies.items result }
 {
     match stage {
-        Stage::Match(question) => Ok(keep(bodies, question)),
+        Stage::Match(question) => Ok(keep(alloc, bodies, question)?),
         Stage::Sort(keys) => Ok(put_in_order(alloc, bodies.as_slice(), keys.as_slice())?),
         Stage::Skip(number) => Ok(skip(bodies, *number)),
         Stage::Limit(number) => Ok(limit(bodies, *number)),

@@ -55,6 +55,10 @@ module _ (whole : Askeds) (o : Option Value) (list : List Question) (i : ℕ) (q
     all_opened : AnswersAll whole o ↔ (Answers split_all.0 o × AnswersAll split_all.1 o)
     all_opened = subst (λ (ts : Askeds). AnswersAll whole o ↔ AnswersAll ts o) split_all.2 l.same
 
+    -- what holds for whatever the question reads
+    pub all_refused : (P : Type 0) → ((t : Asked) → Reads (form_of q) t → P) → P
+    all_refused P told = told split_all.0 split_all.3
+
     pub all_broken : (b : Bool) → ((t : Asked) → Reads (form_of q) t → IsTrue b ↔ Answers t o) → b ≡ false → IsTrue false ↔ AnswersAll whole o
     all_broken b told f = (λ t. absurd cc, λ a. let yes = (told split_all.0 split_all.3).1 (all_opened.0 a).0 in absurd cc)
 
@@ -71,6 +75,9 @@ module _ (whole : Askeds) (o : Option Value) (list : List Question) (i : ℕ) (q
 
     some_opened : AnswersAny whole o ↔ (Answers split_some.0 o ⊎ AnswersAny split_some.1 o)
     some_opened = subst (λ (ts : Askeds). AnswersAny whole o ↔ AnswersAny ts o) split_some.2 l.same
+
+    pub some_refused : (P : Type 0) → ((t : Asked) → Reads (form_of q) t → P) → P
+    some_refused P told = told split_some.0 split_some.3
 
     pub some_found : (b : Bool) → ((t : Asked) → Reads (form_of q) t → IsTrue b ↔ Answers t o) → IsTrue b → IsTrue true ↔ AnswersAny whole o
     some_found b told t = (λ u. some_opened.1 (inl ((told split_some.0 split_some.3).0 t)), λ a. refl)

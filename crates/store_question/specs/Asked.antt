@@ -9,6 +9,7 @@ use Rattle.bson_base.specs.Value.{null, min_key, max_key, string, symbol, Value,
 use Rattle.bson_order.specs.Wholes.{part_of}
 use Rattle.bson_order.specs.Order.{rank, is_no_number, order}
 use Rattle.store_model.specs.Filter.{pairs, under_places, Path}
+use Rattle.store_question.specs.Patterns.{matches_so}
 use Rattle.store_question.specs.declared.question.Comparison.{Comparison}
 use Rattle.store_question.specs.declared.question.Comparison.TheVariants as lies_so
 
@@ -27,6 +28,8 @@ mutual
     leaves : ℤ → ℤ → Asked
     -- it is a text that begins with these bytes
     begins : List ℕ → Asked
+    -- it is a text in which a pattern finds something: its options, and its source
+    matches : List ℕ → List ℕ → Asked
     -- an item of the array answers
     has_item : Asked → Asked
     no : Asked → Asked
@@ -147,6 +150,7 @@ abbrev mutual
   Answers (has_size n) o = HasSize n o
   Answers (leaves d r) o = IsTrue (leaves_so d r (option_and_then part_of o))
   Answers (begins t) o = IsTrue (begins_so t (option_and_then text_in o))
+  Answers (matches options source) o = IsTrue (matches_so options source (option_and_then text_in o))
   Answers (has_item q) o = HasItem (λ v. Answers q (Some v)) o
   Answers (no q) o = Answers q o → ⊥
   Answers (all_of qs) o = AnswersAll qs o

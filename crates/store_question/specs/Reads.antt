@@ -1,5 +1,6 @@
 -- What a question of the code stands for, and which value a view shows.
-use Rattle.std.specs.Prelude.{ℕ, ℤ, ◌≡◌, ◌≤◌, List, [], ◌∷◌, Option, Some, None}
+use Rattle.std.specs.Prelude.{ℕ, ℤ, ◌≡◌, ◌↔◌, ◌≤◌, ◌⊎◌, Bool, IsTrue, List, [], ◌∷◌, Option, Some, None, Result, Ok, Err}
+use Rattle.std.specs.declared.alloc.AllocError.{AllocError}
 use Rattle.bson_base.specs.Value.{Value, array, Items, Members, levels, members_levels}
 use Rattle.bson_bytes.specs.Encode.{encode}
 use Rattle.bson_frame.specs.Frame.{Element}
@@ -12,8 +13,11 @@ use Rattle.bson_raw.specs.Convert.{SpellsRawValue}
 use Rattle.bson_raw.specs.Raw.{own_value, RawValue}
 use Rattle.bson_raw.specs.declared.bson_ref.RawBsonRef.{RawBsonRef}
 use Rattle.store_question.specs.Filters.{path_of}
+use Rattle.regex.specs.Patterns.{Re}
+use Rattle.regex.specs.Strings.{regex_pattern}
+use Rattle.store_question.specs.Patterns.{IsReadFrom}
 use Rattle.store_question.specs.Views.{Encodes, ComesBack, ComeBack, IsWrittenFor}
-use Rattle.store_question.specs.Asked.{Asked, at, whole, exists, is_of, lies, has_size, leaves, begins, has_item, no, all_of, any_of, Askeds, no_asked, asked}
+use Rattle.store_question.specs.Asked.{Asked, at, whole, exists, is_of, lies, has_size, leaves, begins, matches, has_item, no, all_of, any_of, Askeds, no_asked, asked}
 use Rattle.store_question.specs.declared.question.Question.{Question, fold-Question}
 use Rattle.store_question.specs.declared.question.Question.TheOpen.{Question-F}
 
@@ -28,6 +32,7 @@ mutual
     size_form : ℕ → Form
     remainder_form : ℤ → ℤ → Form
     begins_form : List ℕ → Form
+    matches_form : Re → Form
     item_form : Form → Form
     not_form : Form → Form
     all_form : Forms → Form
@@ -51,6 +56,7 @@ form_step (Question-F.Compare c r) = compare_form c (own_value r)
 form_step (Question-F.Size n) = size_form n
 form_step (Question-F.Remainder d r) = remainder_form d r
 form_step (Question-F.Begins t) = begins_form t.items
+form_step (Question-F.Matches r) = matches_form (regex_pattern r.value)
 form_step (Question-F.Item q) = item_form q.value
 form_step (Question-F.Not q) = not_form q.value
 form_step (Question-F.All qs) = all_form (forms_of qs.items)
@@ -70,6 +76,7 @@ abbrev mutual
   Reads (size_form n) t = t ≡ has_size n
   Reads (remainder_form d r) t = t ≡ leaves d r
   Reads (begins_form b) t = t ≡ begins b
+  Reads (matches_form re) t = (options : List ℕ) × (source : List ℕ) × (t ≡ matches options source) × IsReadFrom options source re
   Reads (item_form q) t = (a : Asked) × (t ≡ has_item a) × Reads q a
   Reads (not_form q) t = (a : Asked) × (t ≡ no a) × Reads q a
   Reads (all_form qs) t = (ts : Askeds) × (t ≡ all_of ts) × ReadEach qs ts
@@ -112,3 +119,29 @@ OfMembers bytes P = (ms : Members) → bytes ≡ encode ms → ComeBack ms → m
 -- P holds of the key and the value for which the element is written, if the value comes back and isn't too deep
 abbrev pub OfElement : Element → (List ℕ → Value → Type 0) → Type 0
 OfElement e P = (v : Value) → IsWrittenFor e v → ComesBack v → levels v ≤ 200 → P e.key v
+
+-- a pattern is asked for somewhere in the question: a search for it takes memory
+abbrev mutual
+  pub HasPattern : Form → Type 0
+  HasPattern (at_form p q) = HasPattern q
+  HasPattern (whole_form p q) = HasPattern q
+  HasPattern exists_form = ⊥
+  HasPattern (kind_form k) = ⊥
+  HasPattern (compare_form c r) = ⊥
+  HasPattern (size_form n) = ⊥
+  HasPattern (remainder_form d r) = ⊥
+  HasPattern (begins_form b) = ⊥
+  HasPattern (matches_form re) = Unit {0}
+  HasPattern (item_form q) = HasPattern q
+  HasPattern (not_form q) = HasPattern q
+  HasPattern (all_form qs) = OneHasPattern qs
+  HasPattern (any_form qs) = OneHasPattern qs
+
+  pub OneHasPattern : Forms → Type 0
+  OneHasPattern no_forms = ⊥
+  OneHasPattern (form q qs) = HasPattern q ⊎ OneHasPattern qs
+
+-- it is told whether A holds, or memory ran out, which takes P
+abbrev pub Tells : Type 0 → Result Bool AllocError → Type 0 → Type 0
+Tells P (Ok b) A = IsTrue b ↔ A
+Tells P (Err e) A = P

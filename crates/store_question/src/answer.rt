@@ -8,282 +8,363 @@ ghost use Rattle.store_question.specs.Filters.{path_of};
 ghost use Rattle.store_question.specs.Views.{ComeBack, ComesBack, Encodes, Finds, FindsElement, HoldsPairs, IsWrittenFor, OfWritten};
 ghost use Rattle.store_model.specs.Filter.{pairs, under_places};
 ghost use Rattle.store_question.specs.Asked.{Asked, Askeds, Answers, AnswersAll, AnswersAny, AnyMember, HasItem, IntoDocument, AtEnd, AtMember, AtPlace, Along, Through, Under};
-ghost use Rattle.store_question.specs.Reads.{Found, FindsMember, OfElement, OfMembers, ReadEach, Reads, Shows, form_of, forms_of};
+ghost use Rattle.store_question.specs.Reads.{Found, FindsMember, HasPattern, OfElement, OfMembers, OneHasPattern, ReadEach, Reads, Shows, Tells, form_of, forms_of};
 
 use crate::lacking::{lacks, lacks_place};
-use crate::leaf::{begins, has_kind, has_size, items_in, leaves, lies};
+use crate::leaf::{begins, has_kind, has_size, items_in, leaves, lies, matches};
 use crate::question::Question;
 use bson_raw::{RawBsonRef, RawDocument, RawElement};
+use std::alloc::{AllocError, Global};
 
-/// Whether a document answers a question. Takes no memory, and has a result for any bytes.
-pub fn answers(document: RawDocument<'_>, question: &Question) -> bool
+/// Whether a document answers a question. Has a result for any bytes, and takes memory only for a question that has a
+/// pattern. The error is a refused growth.
+pub fn answers(
+    alloc: Global,
+    document: RawDocument<'_>,
+    question: &Question,
+) -> Result<bool, AllocError>
     ensures { (t : Asked) → Reads (form_of question.now) t → OfWritten (bytes_of document.entry)
-        (λ d. levels (tree d) ≤ 200 → IsTrue result ↔ Answers t (Some (tree d))) }
+        (λ d. levels (tree d) ≤ 200 → Tells (HasPattern (form_of question.now)) result (Answers t (Some (tree d)))) }
 {
     if lacks(document.as_bytes(), question) {
-        return false;
+        return Ok(false);
     }
-    fits(Some(RawBsonRef::Document(document)), question)
+    fits(alloc, Some(RawBsonRef::Document(document)), question)
 }
 
 /// Whether a value, or nothing, answers a question.
 #[cycle(asking)]
-fn fits(value: Option<RawBsonRef<'_>>, question: &Question) -> bool
+fn fits(
+    alloc: Global,
+    value: Option<RawBsonRef<'_>>,
+    question: &Question,
+) -> Result<bool, AllocError>
     ensures { (t : Asked) → Reads (form_of question.now) t → (o : Maybe Value) → Shows value.entry o
-        → IsTrue result ↔ Answers t o }
+        → Tells (HasPattern (form_of question.now)) result (Answers t o) }
 {
     match question {
-        Question::At(path, inner) => along(value, path.as_slice(), inner, true),
-        Question::Whole(path, inner) => along(value, path.as_slice(), inner, false),
-        Question::Exists => value.is_some(),
-        Question::Kind(kind) => has_kind(value, *kind),
-        Question::Compare(comparison, other) => lies(value, *comparison, other.as_raw_bson_ref()),
-        Question::Size(size) => has_size(value, *size),
-        Question::Remainder(divisor, remainder) => leaves(value, *divisor, *remainder),
-        Question::Begins(beginning) => begins(value, beginning.as_slice()),
-        Question::Item(inner) => any_item(value, inner),
-        Question::Not(inner) => !fits(value, inner),
-        Question::All(list) => fits_all(value, list),
-        Question::Any(list) => fits_any(value, list),
+        Question::At(path, inner) => along(alloc, value, path.as_slice(), inner, true),
+        Question::Whole(path, inner) => along(alloc, value, path.as_slice(), inner, false),
+        Question::Exists => Ok(value.is_some()),
+        Question::Kind(kind) => Ok(has_kind(value, *kind)),
+        Question::Compare(comparison, other) => {
+            Ok(lies(value, *comparison, other.as_raw_bson_ref()))
+        }
+        Question::Size(size) => Ok(has_size(value, *size)),
+        Question::Remainder(divisor, remainder) => Ok(leaves(value, *divisor, *remainder)),
+        Question::Begins(beginning) => Ok(begins(value, beginning.as_slice())),
+        Question::Matches(pattern) => matches(alloc, value, pattern),
+        Question::Item(inner) => any_item(alloc, value, inner),
+        Question::Not(inner) => fits_not(alloc, value, inner),
+        Question::All(list) => fits_all(alloc, value, list),
+        Question::Any(list) => fits_any(alloc, value, list),
     }
+}
+
+/// Whether a value, or nothing, doesn't answer a question.
+#[cycle(asking)]
+fn fits_not(
+    alloc: Global,
+    value: Option<RawBsonRef<'_>>,
+    question: &Question,
+) -> Result<bool, AllocError>
+    ensures { (t : Asked) → Reads (form_of question.now) t → (o : Maybe Value) → Shows value.entry o
+        → Tells (HasPattern (form_of question.now)) result (Answers t o → ⊥) }
+{
+    let held = fits(alloc, value, question)?;
+    Ok(!held)
 }
 
 /// Whether a value, or nothing, answers each of the questions. An empty list is answered by everything.
 #[cycle(asking)]
-fn fits_all(value: Option<RawBsonRef<'_>>, list: &[Question]) -> bool
+fn fits_all(
+    alloc: Global,
+    value: Option<RawBsonRef<'_>>,
+    list: &[Question],
+) -> Result<bool, AllocError>
     ensures { (ts : Askeds) → ReadEach (forms_of (map form_of list.now)) ts → (o : Maybe Value) → Shows value.entry o
-        → IsTrue result ↔ AnswersAll ts o }
+        → Tells (OneHasPattern (forms_of (map form_of list.now))) result (AnswersAll ts o) }
 {
     for question in list {
-        if !fits(value, question) {
-            return false;
+        let held = fits(alloc, value, question)?;
+        if !held {
+            return Ok(false);
         }
     }
-    true
+    Ok(true)
 }
 
 /// Whether a value, or nothing, answers one of the questions. An empty list is answered by nothing.
 #[cycle(asking)]
-fn fits_any(value: Option<RawBsonRef<'_>>, list: &[Question]) -> bool
+fn fits_any(
+    alloc: Global,
+    value: Option<RawBsonRef<'_>>,
+    list: &[Question],
+) -> Result<bool, AllocError>
     ensures { (ts : Askeds) → ReadEach (forms_of (map form_of list.now)) ts → (o : Maybe Value) → Shows value.entry o
-        → IsTrue result ↔ AnswersAny ts o }
+        → Tells (OneHasPattern (forms_of (map form_of list.now))) result (AnswersAny ts o) }
 {
     for question in list {
-        if fits(value, question) {
-            return true;
+        let held = fits(alloc, value, question)?;
+        if held {
+            return Ok(true);
         }
     }
-    false
+    Ok(false)
 }
 
 /// Whether the value is an array, and one of its items answers.
 #[cycle(asking)]
-fn any_item(value: Option<RawBsonRef<'_>>, question: &Question) -> bool
+fn any_item(
+    alloc: Global,
+    value: Option<RawBsonRef<'_>>,
+    question: &Question,
+) -> Result<bool, AllocError>
     ensures { (t : Asked) → Reads (form_of question.now) t → (o : Maybe Value) → Shows value.entry o
-        → IsTrue result ↔ HasItem (λ v. Answers t (Some v)) o }
+        → Tells (HasPattern (form_of question.now)) result (HasItem (λ v. Answers t (Some v)) o) }
 {
     match items_in(value) {
-        Some(items) => any_member(items, question),
-        None => false,
+        Some(items) => any_member(alloc, items, question),
+        None => Ok(false),
     }
 }
 
 /// Whether one of the members answers.
 #[cycle(asking)]
-fn any_member(items: RawDocument<'_>, question: &Question) -> bool
+fn any_member(
+    alloc: Global,
+    items: RawDocument<'_>,
+    question: &Question,
+) -> Result<bool, AllocError>
     ensures { (t : Asked) → Reads (form_of question.now) t → OfMembers (bytes_of items.entry)
-        (λ ms. IsTrue result ↔ AnyMember (λ k v. Answers t (Some v)) ms) }
+        (λ ms. Tells (HasPattern (form_of question.now)) result (AnyMember (λ k v. Answers t (Some v)) ms)) }
 {
     for item in items.iter_elements() {
         let Ok(element) = item else {
-            return false;
+            return Ok(false);
         };
-        if member_fits(&element, question) {
-            return true;
+        let held = member_fits(alloc, &element, question)?;
+        if held {
+            return Ok(true);
         }
     }
-    false
+    Ok(false)
 }
 
 /// Whether an element's value answers. One whose payload has a fault answers no question, not even a negated one.
 #[cycle(asking)]
-fn member_fits(element: &RawElement<'_>, question: &Question) -> bool
+fn member_fits(
+    alloc: Global,
+    element: &RawElement<'_>,
+    question: &Question,
+) -> Result<bool, AllocError>
     ensures { (t : Asked) → Reads (form_of question.now) t → OfElement (parts_of element.now)
-        (λ k v. IsTrue result ↔ Answers t (Some v)) }
+        (λ k v. Tells (HasPattern (form_of question.now)) result (Answers t (Some v))) }
 {
     match value_of(element) {
-        Some(found) => fits(Some(found), question),
-        None => false,
+        Some(found) => fits(alloc, Some(found), question),
+        None => Ok(false),
     }
 }
 
 /// Along a path from a value. If `opens`, an array at the end also answers by its items.
 #[cycle(asking)]
-fn along(value: Option<RawBsonRef<'_>>, path: &[String], question: &Question, opens: bool) -> bool
+fn along(
+    alloc: Global,
+    value: Option<RawBsonRef<'_>>,
+    path: &[String],
+    question: &Question,
+    opens: bool,
+) -> Result<bool, AllocError>
     ensures { (t : Asked) → Reads (form_of question.now) t → (o : Maybe Value) → Shows value.entry o
-        → IsTrue result ↔ Along opens (Answers t) (path_of path.now) o }
+        → Tells (HasPattern (form_of question.now)) result (Along opens (Answers t) (path_of path.now) o) }
 {
     let Some((key, rest)) = path.split_first() else {
-        return fits(value, question);
+        return fits(alloc, value, question);
     };
     match value {
-        Some(found) => under(found, key.as_str(), rest, question, opens),
-        None => fits(None, question),
+        Some(found) => under(alloc, found, key.as_str(), rest, question, opens),
+        None => fits(alloc, None, question),
     }
 }
 
 /// What is under a key of a document, or under the key of an array's place, and on along the path.
 #[cycle(asking)]
 fn under(
+    alloc: Global,
     value: RawBsonRef<'_>,
     key: &str,
     rest: &[String],
     question: &Question,
     opens: bool,
-) -> bool
+) -> Result<bool, AllocError>
     ensures { (t : Asked) → Reads (form_of question.now) t → (v : Value) → Found value.entry v
-        → IsTrue result ↔ Under opens (Answers t) key.now (AtMember opens (Answers t) (path_of rest.now)) (pairs v) }
+        → Tells (HasPattern (form_of question.now)) result (Under opens (Answers t) key.now (AtMember opens (Answers t) (path_of rest.now)) (pairs v)) }
 {
     match look_in(value, key) {
-        Some(found) => at_member(found, rest, question, opens),
-        None => fits(None, question),
+        Some(found) => at_member(alloc, found, rest, question, opens),
+        None => fits(alloc, None, question),
     }
 }
 
 /// On from what a document has under a key.
 #[cycle(asking)]
-fn at_member(value: RawBsonRef<'_>, path: &[String], question: &Question, opens: bool) -> bool
+fn at_member(
+    alloc: Global,
+    value: RawBsonRef<'_>,
+    path: &[String],
+    question: &Question,
+    opens: bool,
+) -> Result<bool, AllocError>
     ensures { (t : Asked) → Reads (form_of question.now) t → (v : Value) → Found value.entry v
-        → IsTrue result ↔ AtMember opens (Answers t) (path_of path.now) v }
+        → Tells (HasPattern (form_of question.now)) result (AtMember opens (Answers t) (path_of path.now) v) }
 {
     let Some((key, rest)) = path.split_first() else {
-        return at_end(value, question, opens);
+        return at_end(alloc, value, question, opens);
     };
     if value.as_document().is_some() {
-        return under(value, key.as_str(), rest, question, opens);
+        return under(alloc, value, key.as_str(), rest, question, opens);
     }
     match items_in(Some(value)) {
-        Some(items) => through(items, key.as_str(), rest, question, opens),
-        None => fits(None, question),
+        Some(items) => through(alloc, items, key.as_str(), rest, question, opens),
+        None => fits(alloc, None, question),
     }
 }
 
 /// Whether the value at the end of a path answers: as it stands, or, if `opens`, by one of its items if it is an array.
 #[cycle(asking)]
-fn at_end(value: RawBsonRef<'_>, question: &Question, opens: bool) -> bool
+fn at_end(
+    alloc: Global,
+    value: RawBsonRef<'_>,
+    question: &Question,
+    opens: bool,
+) -> Result<bool, AllocError>
     ensures { (t : Asked) → Reads (form_of question.now) t → (v : Value) → Found value.entry v
-        → IsTrue result ↔ AtEnd opens (Answers t) v }
+        → Tells (HasPattern (form_of question.now)) result (AtEnd opens (Answers t) v) }
 {
     if !opens {
-        return fits(Some(value), question);
+        return fits(alloc, Some(value), question);
     }
-    if any_item(Some(value), question) {
-        return true;
+    let held = any_item(alloc, Some(value), question)?;
+    if held {
+        return Ok(true);
     }
-    fits(Some(value), question)
+    fits(alloc, Some(value), question)
 }
 
 /// Through the items of an array.
 #[cycle(asking)]
 fn through(
+    alloc: Global,
     items: RawDocument<'_>,
     key: &str,
     rest: &[String],
     question: &Question,
     opens: bool,
-) -> bool
+) -> Result<bool, AllocError>
     ensures { (t : Asked) → Reads (form_of question.now) t → OfMembers (bytes_of items.entry)
-        (λ ms. IsTrue result ↔ AnyMember (Through opens (Answers t) key.now (AtMember opens (Answers t) (path_of rest.now))
-        (AtPlace opens (Answers t) (path_of rest.now))) ms) }
+        (λ ms. Tells (HasPattern (form_of question.now)) result (AnyMember (Through opens (Answers t) key.now (AtMember opens (Answers t) (path_of rest.now))
+        (AtPlace opens (Answers t) (path_of rest.now))) ms)) }
 {
     for item in items.iter_elements() {
         let Ok(element) = item else {
-            return false;
+            return Ok(false);
         };
-        if goes_through(&element, key, rest, question, opens) {
-            return true;
+        let held = goes_through(alloc, &element, key, rest, question, opens)?;
+        if held {
+            return Ok(true);
         }
     }
-    false
+    Ok(false)
 }
 
 /// Into a document, and into the item whose place is the key.
 #[cycle(asking)]
 fn goes_through(
+    alloc: Global,
     element: &RawElement<'_>,
     key: &str,
     rest: &[String],
     question: &Question,
     opens: bool,
-) -> bool
+) -> Result<bool, AllocError>
     ensures { (t : Asked) → Reads (form_of question.now) t → OfElement (parts_of element.now)
-        (λ k v. IsTrue result ↔ Through opens (Answers t) key.now (AtMember opens (Answers t) (path_of rest.now))
-        (AtPlace opens (Answers t) (path_of rest.now)) k v) }
+        (λ k v. Tells (HasPattern (form_of question.now)) result (Through opens (Answers t) key.now (AtMember opens (Answers t) (path_of rest.now))
+        (AtPlace opens (Answers t) (path_of rest.now)) k v)) }
 {
     let Some(found) = value_of(element) else {
-        return false;
+        return Ok(false);
     };
-    if into_document(found, key, rest, question, opens) {
-        return true;
+    let held = into_document(alloc, found, key, rest, question, opens)?;
+    if held {
+        return Ok(true);
     }
     if element.key() == key {
-        return at_place(found, rest, question, opens);
+        return at_place(alloc, found, rest, question, opens);
     }
-    false
+    Ok(false)
 }
 
 /// Into a value that is a document.
 #[cycle(asking)]
 fn into_document(
+    alloc: Global,
     value: RawBsonRef<'_>,
     key: &str,
     rest: &[String],
     question: &Question,
     opens: bool,
-) -> bool
+) -> Result<bool, AllocError>
     ensures { (t : Asked) → Reads (form_of question.now) t → (v : Value) → Found value.entry v
-        → IsTrue result ↔ IntoDocument opens (Answers t) key.now (AtMember opens (Answers t) (path_of rest.now)) v }
+        → Tells (HasPattern (form_of question.now)) result (IntoDocument opens (Answers t) key.now (AtMember opens (Answers t) (path_of rest.now)) v) }
 {
     if value.as_document().is_some() {
-        under_item(value, key, rest, question, opens)
+        under_item(alloc, value, key, rest, question, opens)
     } else {
-        false
+        Ok(false)
     }
 }
 
 /// The same as `under`, of an item of an array: its bytes may tell that it hasn't the key.
 #[cycle(asking)]
 fn under_item(
+    alloc: Global,
     value: RawBsonRef<'_>,
     key: &str,
     rest: &[String],
     question: &Question,
     opens: bool,
-) -> bool
+) -> Result<bool, AllocError>
     ensures { (t : Asked) → Reads (form_of question.now) t → (v : Value) → Found value.entry v
-        → IsTrue result ↔ Under opens (Answers t) key.now (AtMember opens (Answers t) (path_of rest.now)) (pairs v) }
+        → Tells (HasPattern (form_of question.now)) result (Under opens (Answers t) key.now (AtMember opens (Answers t) (path_of rest.now)) (pairs v)) }
 {
     if lacks_place(value, key) {
-        return fits(None, question);
+        return fits(alloc, None, question);
     }
-    under(value, key, rest, question, opens)
+    under(alloc, value, key, rest, question, opens)
 }
 
 /// On from an item that was reached by its place. Such an item at the end of the path isn't opened.
 #[cycle(asking)]
-fn at_place(value: RawBsonRef<'_>, path: &[String], question: &Question, opens: bool) -> bool
+fn at_place(
+    alloc: Global,
+    value: RawBsonRef<'_>,
+    path: &[String],
+    question: &Question,
+    opens: bool,
+) -> Result<bool, AllocError>
     ensures { (t : Asked) → Reads (form_of question.now) t → (v : Value) → Found value.entry v
-        → IsTrue result ↔ AtPlace opens (Answers t) (path_of path.now) v }
+        → Tells (HasPattern (form_of question.now)) result (AtPlace opens (Answers t) (path_of path.now) v) }
 {
     let Some((key, rest)) = path.split_first() else {
-        return fits(Some(value), question);
+        return fits(alloc, Some(value), question);
     };
     if value.as_document().is_some() {
-        return under(value, key.as_str(), rest, question, opens);
+        return under(alloc, value, key.as_str(), rest, question, opens);
     }
     match items_in(Some(value)) {
-        Some(items) => through(items, key.as_str(), rest, question, opens),
-        None => false,
+        Some(items) => through(alloc, items, key.as_str(), rest, question, opens),
+        None => Ok(false),
     }
 }
 

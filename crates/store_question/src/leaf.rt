@@ -1,6 +1,6 @@
 //! What is asked of one value.
 
-ghost use Rattle.std.specs.Prelude.{◌≡◌, ◌↔◌, ◌≤◌, IsTrue, IsSomeAnd, option_and_then, option_map, unwrap_or};
+ghost use Rattle.std.specs.Prelude.{ℕ, List, Some, ◌≡◌, ◌↔◌, ◌≤◌, IfOk, IsTrue, IsSomeAnd, option_and_then, option_map, unwrap_or};
 ghost use Rattle.bson_base.specs.Value.{Value, scalar, null, value_kind, levels};
 ghost use Rattle.bson_order.specs.Wholes.{part_of};
 ghost use Rattle.bson_raw.specs.Convert.{SpellsRawValue};
@@ -8,12 +8,16 @@ ghost use Rattle.bson_raw.specs.Raw.{ref_value};
 ghost use Rattle.bson_raw.specs.View.{bytes_of};
 ghost use Rattle.std.specs.Prelude.{Option as Maybe};
 ghost use Rattle.store_question.specs.Asked.{lies_to, lies_apart, holds as holds_so, HasSize, count as count_of, leaves_so, begins_so, text_in};
+ghost use Rattle.regex.specs.Strings.{regex_pattern};
+ghost use Rattle.store_question.specs.Patterns.{IsReadFrom, matches_so};
 ghost use Rattle.store_question.specs.Reads.{Shows, HoldsItems, OfMembers};
 
 use crate::question::Comparison;
 use bson_base::ElementType;
 use bson_order::{compare, is_not_a_number, rank_of, whole_part_of};
 use bson_raw::{RawBsonRef, RawDocument};
+use regex::Regex;
+use std::alloc::{AllocError, Global};
 use std::cmp::Ordering;
 
 /// Whether a value lies so to another. What is absent lies as null does. Only what has one rank is compared, but every
@@ -136,6 +140,44 @@ fn begins_by(text: Option<&str>, beginning: &[u8]) -> bool
         Some(text) => text.as_bytes().starts_with(beginning),
         None => false,
     }
+}
+
+/// Whether there is a text, or a symbol, in which a pattern finds something. The error is a refused growth.
+pub(crate) fn matches(
+    alloc: Global,
+    value: Option<RawBsonRef<'_>>,
+    pattern: &Regex,
+) -> Result<bool, AllocError>
+    ensures { (options source : List ℕ) → IsReadFrom options source (regex_pattern pattern.now)
+        → (o : Maybe Value) → Shows value.entry o
+        → IfOk result (λ b. b ≡ matches_so options source (option_and_then text_in o)) }
+{
+    match value {
+        Some(found) => matches_in(alloc, text_of(found), pattern),
+        None => Ok(false),
+    }
+}
+
+/// Whether a pattern finds something in a text. False without a text.
+fn matches_in(alloc: Global, text: Option<&str>, pattern: &Regex) -> Result<bool, AllocError>
+    ensures { (options source : List ℕ) → IsReadFrom options source (regex_pattern pattern.now)
+        → IfOk result (λ b. b ≡ matches_so options source (option_map (λ t. t.now) text.entry)) }
+{
+    match text {
+        Some(text) => finds(alloc, text, pattern),
+        None => Ok(false),
+    }
+}
+
+/// Whether a pattern finds something in a text.
+// A matcher takes 30 kB of the stack: they stay out of the frame of `fits`, which calls itself for each level.
+#[inline(never)]
+fn finds(alloc: Global, text: &str, pattern: &Regex) -> Result<bool, AllocError>
+    ensures { (options source : List ℕ) → IsReadFrom options source (regex_pattern pattern.now)
+        → IfOk result (λ b. b ≡ matches_so options source (Some text.now)) }
+{
+    let mut matcher = pattern.matcher(alloc)?;
+    Ok(matcher.is_match(text))
 }
 
 /// The document of an array's elements, each under the key of its place. None of what is no array. Takes no memory.

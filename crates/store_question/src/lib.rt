@@ -1,5 +1,5 @@
-//! Questions to documents with the meaning of MongoDB's queries: by range, into arrays, by count. They are answered from
-//! the documents' bytes, without memory; so are filters, paths and the copies of some keys.
+//! Questions to documents with the meaning of MongoDB's queries: by range, into arrays, by count, by a pattern. They are
+//! answered from the documents' bytes, and patterns alone take memory; so are filters, paths and the copies of some keys.
 #![tactic(auto)]
 
 mod answer;

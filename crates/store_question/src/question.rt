@@ -2,6 +2,7 @@
 
 use bson_base::ElementType;
 use bson_raw::RawBson;
+use regex::Regex;
 
 /// How a value lies to another in the order of values.
 #[derive(Clone, Copy, Debug, PartialEq, Eq)]
@@ -14,7 +15,7 @@ pub enum Comparison {
 }
 
 /// What is asked of a value, or of nothing, where a path leads to none.
-#[derive(Debug, PartialEq, Drop)]
+#[derive(Debug, Drop)]
 pub enum Question {
     /// Something that the path leads to answers this; of an array at its end, the array or one of its items.
     At(Vec<String>, Box<Question>),
@@ -33,6 +34,8 @@ pub enum Question {
     Remainder(i64, i64),
     /// It is a text that begins with these bytes.
     Begins(Vec<u8>),
+    /// It is a text in which this pattern finds something.
+    Matches(Box<Regex>),
     /// It is an array, and one of its items answers this.
     Item(Box<Question>),
     Not(Box<Question>),

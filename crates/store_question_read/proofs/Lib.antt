@@ -6,5 +6,6 @@ mod LoopLemmas
 mod LeafLemmas
 mod MadeLemmas
 mod PatternLemmas
+mod BuildLemmas
 mod QueryLemmas
 pub mod ReadLemmas

@@ -43,12 +43,12 @@ entries_halt xs i x list error = halt Entry entries_of entry_of refl (λ y ys. r
 pub entries_over : (xs : List Entry) (i : ℕ) (list : Vec Question Global) → length xs ≤ i → SoFar list.items (entries_of xs) (entries_of (drop i xs)) → Gives AskEach (Ok list) (entries_of xs)
 entries_over xs i list = over Entry entries_of entry_of refl (λ y ys. refl) xs i list (entries_of xs)
 
-module _ (p : Path) where
-  abbrev test_of : Entry → Result Asked Fault
-  test_of e = test p e.0.now (operator_of e.0.now) (value_view e.1) (λ l. items p e.0.now l (value_view e.1)) (operators p e.0.now (value_view e.1)) (matching p e.0.now (value_view e.1))
+module _ (p : Path) (o : List ℕ) where
+  abbrev pub test_of : Entry → Result Asked Fault
+  test_of e = test p o e.0.now (operator_of e.0.now) (value_view e.1) (λ l. items p e.0.now l (value_view e.1)) (operators p e.0.now (value_view e.1)) (matching p e.0.now (value_view e.1))
 
   abbrev tests_of : List Entry → Result Askeds Fault
-  tests_of es = tests p (members_view es)
+  tests_of es = tests p o (members_view es)
 
   pub tests_turn : (xs : List Entry) (i : ℕ) (x : Entry) (list : List Question) (q : Question) → x ≡ get_or xs i x → i < length xs → SoFar list (tests_of xs) (tests_of (drop i xs)) → Gives Asks (Ok q) (test_of x) → SoFar (list ++ q ∷ []) (tests_of xs) (tests_of (drop (i + 1) xs))
   tests_turn xs i x list q = turn Entry tests_of test_of refl (λ y ys. refl) xs i x list q (tests_of xs)

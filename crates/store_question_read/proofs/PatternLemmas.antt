@@ -10,7 +10,7 @@ use Rattle.bson_raw.specs.Raw.{ref_value}
 use Rattle.bson_raw.specs.declared.bson_ref.RawBsonRef.{RawBsonRef}
 use Rattle.bson_raw.specs.declared.bson_ref.RawBsonRef.TheVariants as views
 use Rattle.bson_raw.specs.declared.bson_ref.RawRegexRef.{RawRegexRef}
-use Rattle.store_question_read.specs.Patterns.{AreWritten, IsBeginning, IsWritten, beginning_in, literal, opens, pattern_of, stands}
+use Rattle.store_question_read.specs.Patterns.{AreWritten, IsBeginning, IsWritten, beginning_in, expression_of, literal, opens, stands}
 
 -- ---- one more byte
 
@@ -71,15 +71,15 @@ module _ (whole bytes : List ℕ) (escaped : Bool) (i : ℕ) (h : length whole �
   pub complete : escaped ≡ false → Some bytes ≡ literal false whole
   complete e = sym (over ∙ ap (λ (x : Bool). option_map (λ t. bytes ++ t) (literal x [])) e ∙ ap Some (append-nil bytes))
 
--- ---- what is no pattern
+-- ---- what is no expression
 
-pub no_pattern : (raw : RawBsonRef) (v : Value) → ((x : Bor (List ℕ)) → raw ≡ views.String x → ⊥) → ((x : RawRegexRef) → raw ≡ views.RegularExpression x → ⊥) → SpellsRawValue (ref_value raw) v → None ≡ pattern_of v
-no_pattern (views.String x) v never nor s = absurd (never x refl)
-no_pattern (views.RegularExpression x) v never nor s = absurd (nor x refl)
-no_pattern (views.Array x) v never nor s = subst (λ (w : Value). None ≡ pattern_of w) (sym s.2) refl
-no_pattern (views.Document x) v never nor s = subst (λ (w : Value). None ≡ pattern_of w) (sym s.2) refl
-no_pattern (views.JavaScriptCodeWithScope x) v never nor s = subst (λ (w : Value). None ≡ pattern_of w) (sym s.2) refl
-no_pattern raw v never nor s = subst (λ (w : Value). None ≡ pattern_of w) (sym s) refl
+pub no_expression : (raw : RawBsonRef) (v : Value) → ((x : Bor (List ℕ)) → raw ≡ views.String x → ⊥) → ((x : RawRegexRef) → raw ≡ views.RegularExpression x → ⊥) → SpellsRawValue (ref_value raw) v → None ≡ expression_of v
+no_expression (views.String x) v never nor s = absurd (never x refl)
+no_expression (views.RegularExpression x) v never nor s = absurd (nor x refl)
+no_expression (views.Array x) v never nor s = subst (λ (w : Value). None ≡ expression_of w) (sym s.2) refl
+no_expression (views.Document x) v never nor s = subst (λ (w : Value). None ≡ expression_of w) (sym s.2) refl
+no_expression (views.JavaScriptCodeWithScope x) v never nor s = subst (λ (w : Value). None ≡ expression_of w) (sym s.2) refl
+no_expression raw v never nor s = subst (λ (w : Value). None ≡ expression_of w) (sym s) refl
 
 -- ---- what is read is what is written
 

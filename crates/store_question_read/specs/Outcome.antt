@@ -1,5 +1,5 @@
 -- What an error says of a fault, and what a question that was read stands for.
-use Rattle.std.specs.Prelude.{◌≡◌, ℕ, List, map, Some, None, Result, Ok, Err, Vec, IsSomeAnd, string_bytes}
+use Rattle.std.specs.Prelude.{◌≡◌, ℕ, List, map, Option, Some, None, Result, Ok, Err, Vec, IsSomeAnd, string_bytes}
 use Rattle.std.specs.declared.alloc.Global.{Global}
 use Rattle.json.specs.Json.{Json, document as tree_of}
 use Rattle.json.specs.Strict.{HasUniqueKeys}
@@ -47,6 +47,11 @@ Spells r v = SpellsRawValue (own_value r) v
 -- the question asks this
 abbrev pub Asks : Question → Asked → Type 0
 Asks q t = Reads (form_of q) t
+
+-- the question asks this, or there is nothing to be asked
+abbrev pub AsksOf : Option Question → Option Asked → Type 0
+AsksOf None o = o ≡ None
+AsksOf (Some q) o = (t : Asked) × (o ≡ Some t) × Asks q t
 
 abbrev pub AskEach : Vec Question Global → Askeds → Type 0
 AskEach qs ts = ReadEach (forms_of (map form_of qs.items)) ts

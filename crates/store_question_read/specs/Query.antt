@@ -15,11 +15,11 @@ use Rattle.bson_model.specs.JsonKeys.{is_reserved}
 use Rattle.bson_json_read.specs.DoubleText.{double_of}
 use Rattle.bson_order.specs.Wholes.{part_of, whole_of}
 use Rattle.store_model.specs.Filter.{Path}
-use Rattle.store_question.specs.Asked.{Asked, at, whole, exists, is_of, lies, has_size, leaves, begins, has_item, no, all_of, any_of, Askeds, no_asked, asked}
+use Rattle.store_question.specs.Asked.{Asked, at, whole, exists, is_of, lies, has_size, leaves, has_item, no, all_of, any_of, Askeds, no_asked, asked}
 use Rattle.store_question.specs.declared.question.Comparison.{Comparison}
 use Rattle.store_question.specs.declared.question.Comparison.TheVariants.{Equal, Less, AtMost, AtLeast, Greater}
 use Rattle.store_question_read.specs.Kinds.{is_number, kind_of}
-use Rattle.store_question_read.specs.Patterns.{beginning_of}
+use Rattle.store_question_read.specs.Patterns.{are_options, asked_of}
 use Rattle.store_question_read.specs.Values.{can_be_held, decimal_in, is_expression, numeral_in, truth_of}
 use Rattle.store_question_read.specs.declared.words.Joining.{Joining}
 use Rattle.store_question_read.specs.declared.words.Joining.TheVariants.{And, Or, Nor, Comment}
@@ -81,6 +81,15 @@ has_key k (json.member l j js) = bytes_eq l k || has_key k js
 abbrev pub has_lone_options : json.Members → Bool
 has_lone_options js = has_key (codes "$options") js && not (has_key (codes "$regex") js)
 
+abbrev pub text_or_none : Json → List ℕ
+text_or_none (json.string t) = t
+text_or_none _ = []
+
+-- the options beside a pattern
+abbrev pub options_in : json.Members → List ℕ
+options_in json.no_members = []
+options_in (json.member k j js) = if bytes_eq k (codes "$options") then text_or_none j else options_in js
+
 -- what is between the dots
 abbrev pub keys : List ℕ → Path
 keys p = slice_split (λ b. b == 46) p
@@ -102,7 +111,7 @@ or_fault k (Err e) = Err (no_operand k)
 abbrev pub value : List ℕ → Json → Result Value Fault
 value k j = or_fault k (read j) >>= λ v. only_if (can_be_held v) k v
 
--- by a regular expression MongoDB searches texts, which isn't done here
+-- by a regular expression alone MongoDB searches texts, which is done under `$regex` only
 abbrev pub plain_value : List ℕ → Json → Result Value Fault
 plain_value k j = value k j >>= λ v. only_if (not (is_expression v)) k v
 
@@ -187,17 +196,17 @@ abbrev pub divided : Path → List ℕ → Json → Result Asked Fault
 divided p k (json.array (json.item i (json.item j json.no_items))) = divisor k i >>= λ d. part k j >>= λ r. Ok (at p (leaves d r))
 divided p k _ = Err (no_operand k)
 
--- the pattern of a fixed beginning
-abbrev pub begun : Path → List ℕ → Json → Result Asked Fault
-begun p k j = value k j >>= λ v. some_or_fault k (beginning_of v) >>= λ t. Ok (at p (begins t))
+-- a text in which a pattern under the options o finds something
+abbrev pub found_by : Path → List ℕ → List ℕ → Json → Result Asked Fault
+found_by p o k j = value k j >>= λ v. some_or_fault k (asked_of o v) >>= λ q. Ok (at p q)
 
-abbrev pub is_empty_text : Json → Bool
-is_empty_text (json.string []) = true
-is_empty_text _ = false
+abbrev pub is_text_of_options : Json → Bool
+is_text_of_options (json.string t) = are_options t
+is_text_of_options _ = false
 
--- the options of a pattern, which are none: they ask nothing
-abbrev pub without_options : List ℕ → Json → Result Asked Fault
-without_options k j = only_if (is_empty_text j) k (all_of no_asked)
+-- the options of a pattern, which ask nothing by themselves
+abbrev pub with_options : List ℕ → Json → Result Asked Fault
+with_options k j = only_if (is_text_of_options j) k (all_of no_asked)
 
 abbrev pub filled : List ℕ → Askeds → Result Askeds Fault
 filled k no_asked = Err (no_operand k)
@@ -222,24 +231,24 @@ is_array _ = false
 abbrev pub kind_or_kinds : Path → List ℕ → Json → Result Askeds Fault → Result Asked Fault
 kind_or_kinds p k j list = if is_array j then (one_at_least k list >>= λ qs. Ok (any_of qs)) else of_kind p k j
 
--- The operator k with what is under it. The last three are what that gives as an array of such items, as an object of
+-- The operator k with what is under it, and the options o of a pattern beside it. The last three are what that gives as an array of such items, as an object of
 -- operators, and as what an item has to match.
-abbrev pub test : Path → List ℕ → Option Operator → Json → (Listed → Result Askeds Fault) → Result Asked Fault → Result Asked Fault → Result Asked Fault
-test p k None j list operators match = Err (no_operator k)
-test p k (Some Eq) j list operators match = exactly p k j
-test p k (Some Ne) j list operators match = differs p k j
-test p k (Some (Lies c)) j list operators match = compared p k c j
-test p k (Some In) j list operators match = list Values >>= λ qs. Ok (any_of qs)
-test p k (Some Nin) j list operators match = list Values >>= λ qs. Ok (no (any_of qs))
-test p k (Some All) j list operators match = list Parts >>= λ qs. Ok (every qs)
-test p k (Some ElementMatch) j list operators match = match
-test p k (Some Size) j list operators match = of_size p k j
-test p k (Some Exists) j list operators match = existing p k j
-test p k (Some Kind) j list operators match = kind_or_kinds p k j (list Kinds)
-test p k (Some Mod) j list operators match = divided p k j
-test p k (Some Regex) j list operators match = begun p k j
-test p k (Some Options) j list operators match = without_options k j
-test p k (Some Not) j list operators match = operators >>= λ q. Ok (no q)
+abbrev pub test : Path → List ℕ → List ℕ → Option Operator → Json → (Listed → Result Askeds Fault) → Result Asked Fault → Result Asked Fault → Result Asked Fault
+test p o k None j list operators match = Err (no_operator k)
+test p o k (Some Eq) j list operators match = exactly p k j
+test p o k (Some Ne) j list operators match = differs p k j
+test p o k (Some (Lies c)) j list operators match = compared p k c j
+test p o k (Some In) j list operators match = list Values >>= λ qs. Ok (any_of qs)
+test p o k (Some Nin) j list operators match = list Values >>= λ qs. Ok (no (any_of qs))
+test p o k (Some All) j list operators match = list Parts >>= λ qs. Ok (every qs)
+test p o k (Some ElementMatch) j list operators match = match
+test p o k (Some Size) j list operators match = of_size p k j
+test p o k (Some Exists) j list operators match = existing p k j
+test p o k (Some Kind) j list operators match = kind_or_kinds p k j (list Kinds)
+test p o k (Some Mod) j list operators match = divided p k j
+test p o k (Some Regex) j list operators match = found_by p o k j
+test p o k (Some Options) j list operators match = with_options k j
+test p o k (Some Not) j list operators match = operators >>= λ q. Ok (no q)
 
 -- options without a pattern beside them are refused in front of all else
 abbrev pub together : json.Members → Result Askeds Fault → Result Askeds Fault
@@ -285,22 +294,22 @@ abbrev mutual
 
   -- an object of operators: all of them are asked
   pub operators : Path → List ℕ → Json → Result Asked Fault
-  operators p k (object js) = if are_operators js then (together js (tests p js) >>= λ qs. Ok (all_of qs)) else Err (no_operand k)
+  operators p k (object js) = if are_operators js then (together js (tests p (options_in js) js) >>= λ qs. Ok (all_of qs)) else Err (no_operand k)
   operators p k json.null = Err (no_operand k)
   operators p k (json.boolean b) = Err (no_operand k)
   operators p k (json.number t) = Err (no_operand k)
   operators p k (json.string t) = Err (no_operand k)
   operators p k (json.array js) = Err (no_operand k)
 
-  pub tests : Path → json.Members → Result Askeds Fault
-  tests p json.no_members = Ok no_asked
-  tests p (json.member k j js) =
-      test p k (operator_of k) j (λ l. items p k l j) (operators p k j) (matching p k j) >>= λ q. tests p js >>= λ qs. Ok (asked q qs)
+  pub tests : Path → List ℕ → json.Members → Result Askeds Fault
+  tests p o json.no_members = Ok no_asked
+  tests p o (json.member k j js) =
+      test p o k (operator_of k) j (λ l. items p k l j) (operators p k j) (matching p k j) >>= λ q. tests p o js >>= λ qs. Ok (asked q qs)
 
   -- what an item of an array has to match: operators, or a query
   pub matching : Path → List ℕ → Json → Result Asked Fault
   matching p k (object js) =
-      if are_of_items js then (together js (tests [] js) >>= λ qs. Ok (whole p (has_item (all_of qs))))
+      if are_of_items js then (together js (tests [] (options_in js) js) >>= λ qs. Ok (whole p (has_item (all_of qs))))
       else (entries js >>= λ qs. Ok (whole p (has_item (holds qs))))
   matching p k json.null = Err (no_operand k)
   matching p k (json.boolean b) = Err (no_operand k)

@@ -5,12 +5,12 @@ ghost use Rattle.json.specs.Json.{array, item, no_items};
 ghost use Rattle.json.specs.Value.{items_view, value_view as data_of};
 ghost use Rattle.store_question.specs.Asked.{Askeds};
 ghost use Rattle.store_question_read.specs.Outcome.{AskEach, Asks, Gives, Same};
-ghost use Rattle.store_question_read.specs.Query.{begun as begun_at, compared as compared_at, differs as differs_at, divided as divided_at, divisor as divisor_under, equal as equal_at, exactly as exactly_at, existing as existing_at, is_empty_text as empty_text, without_options as without_options_under, filled as filled_under, near as near_at, of_kind as of_kind_at, of_size as of_size_at};
+ghost use Rattle.store_question_read.specs.Query.{compared as compared_at, differs as differs_at, divided as divided_at, divisor as divisor_under, equal as equal_at, exactly as exactly_at, existing as existing_at, filled as filled_under, found_by as found_at, is_text_of_options as text_of_options, with_options as with_options_under, near as near_at, of_kind as of_kind_at, of_size as of_size_at};
 
 use crate::error::{QueryError, operand};
 use crate::kinds::{is_number, kind_of};
 use crate::made;
-use crate::patterns::beginning_of;
+use crate::patterns::{are_options, asked_of};
 use crate::values::{exact, number, numeral_in, part, plain_value, truth_of, value};
 use json::Value;
 use std::alloc::Global;
@@ -207,42 +207,44 @@ fn divisor_of(alloc: Global, key: &str, tree: &Value<'_>) -> Result<i64, QueryEr
     }
 }
 
-/// The value at the path is a text that begins as a pattern says. `Operand` if that asks for more than a beginning.
-pub(crate) fn begins(
+/// The value at the path is a text in which a pattern, under the options beside it, finds something. `Operand` if it is no
+/// pattern that is taken.
+pub(crate) fn found(
     alloc: Global,
     path: &[&str],
+    options: &str,
     key: &str,
     tree: &Value<'_>,
 ) -> Result<Question, QueryError>
-    ensures { Gives Asks result (begun_at (map (λ x. x.now) path.now) key.now (data_of tree.now)) }
+    ensures { Gives Asks result (found_at (map (λ x. x.now) path.now) options.now key.now (data_of tree.now)) }
 {
     let value = value(alloc, key, tree)?;
-    let beginning = beginning_of(alloc, value.as_raw_bson_ref())?;
-    match beginning {
-        Some(beginning) => Ok(made::begins(alloc, path, beginning)?),
+    let asked = asked_of(alloc, options, value.as_raw_bson_ref())?;
+    match asked {
+        Some(question) => Ok(made::at(alloc, path, question)?),
         None => Err(operand(alloc, key)),
     }
 }
 
-/// Whether a tree is a text without any character.
-fn is_empty_text(tree: &Value<'_>) -> bool
-    ensures { result ≡ empty_text (data_of tree.now) }
+/// Whether a tree is a text of options.
+fn is_text_of_options(tree: &Value<'_>) -> bool
+    ensures { result ≡ text_of_options (data_of tree.now) }
 {
     match tree {
-        Value::String(text) => text.is_empty(),
+        Value::String(text) => are_options(*text),
         _ => false,
     }
 }
 
-/// The options of a pattern ask nothing. `Operand` if there are some.
-pub(crate) fn without_options(
+/// The options of a pattern ask nothing by themselves. `Operand` if they are no options.
+pub(crate) fn with_options(
     alloc: Global,
     key: &str,
     tree: &Value<'_>,
 ) -> Result<Question, QueryError>
-    ensures { Gives Asks result (without_options_under key.now (data_of tree.now)) }
+    ensures { Gives Asks result (with_options_under key.now (data_of tree.now)) }
 {
-    if is_empty_text(tree) {
+    if is_text_of_options(tree) {
         Ok(made::all(Vec::new(alloc)))
     } else {
         Err(operand(alloc, key))

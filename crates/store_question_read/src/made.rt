@@ -1,15 +1,18 @@
 //! Questions from their parts.
 
-ghost use Rattle.std.specs.Prelude.{◌≡◌, map, None, option_map, IfOk};
+ghost use Rattle.std.specs.Prelude.{◌≡◌, ℕ, List, map, None, option_map, IfOk};
+ghost use Rattle.regex.specs.Strings.{regex_pattern};
 ghost use Rattle.bson_base.specs.Scalars.{decimal_bytes};
 ghost use Rattle.bson_base.specs.Value.{Value};
 ghost use Rattle.store_question.specs.Filters.{path_of};
-ghost use Rattle.store_question.specs.Asked.{Asked, Askeds, at as Within, whole as Whole, exists, is_of, lies as Lies, has_size, leaves as Leaves, begins as Begins, has_item, no, all_of, any_of};
+ghost use Rattle.store_question.specs.Asked.{Asked, Askeds, at as Within, whole as Whole, exists, is_of, lies as Lies, has_size, leaves as Leaves, begins as Begins, matches as Matches, has_item, no, all_of, any_of};
+ghost use Rattle.store_question.specs.Patterns.{IsReadFrom};
 ghost use Rattle.store_question_read.specs.Outcome.{AskEach, Asks, Spells};
 ghost use Rattle.store_question_read.specs.Query.{both as Both, either as Either, every as every_of, holds as holds_in, is_a_number as number_at, keys, lies_near, others_lie, there as there_at};
 
 use bson_base::{Decimal128, DoubleBits, ElementType};
 use bson_raw::RawBson;
+use regex::Regex;
 use std::alloc::{AllocError, Global};
 use store_question::{Comparison, Question};
 
@@ -40,7 +43,7 @@ pub fn keys_of(alloc: Global, path: &str) -> Result<Vec<String>, AllocError>
 }
 
 /// Asked of what is at a path, and of the items of an array there.
-fn at(alloc: Global, path: &[&str], question: Question) -> Result<Question, AllocError>
+pub(crate) fn at(alloc: Global, path: &[&str], question: Question) -> Result<Question, AllocError>
     ensures { (t : Asked) → Asks question t
         → IfOk result (λ q. Asks q (Within (map (λ x. x.now) path.now) t)) }
 {
@@ -217,17 +220,19 @@ pub(crate) fn leaves(
 }
 
 /// The value itself, at no path, is a text that begins with these bytes.
-fn beginning(bytes: Vec<u8>) -> Question
+pub(crate) fn beginning(bytes: Vec<u8>) -> Question
     ensures { Asks result (Begins bytes.items) }
 {
     Question::Begins(bytes)
 }
 
-/// The value at a path is a text that begins with these bytes.
-pub(crate) fn begins(alloc: Global, path: &[&str], bytes: Vec<u8>) -> Result<Question, AllocError>
-    ensures { IfOk result (λ q. Asks q (Within (map (λ x. x.now) path.now) (Begins bytes.items))) }
+/// The value itself, at no path, is a text in which a pattern finds something.
+pub(crate) fn searched(alloc: Global, pattern: Regex) -> Result<Question, AllocError>
+    ensures { (options source : List ℕ) → IsReadFrom options source (regex_pattern pattern)
+        → IfOk result (λ q. Asks q (Matches options source)) }
 {
-    at(alloc, path, beginning(bytes))
+    let inner = Box::new(alloc, pattern)?;
+    Ok(Question::Matches(inner))
 }
 
 /// The value at a path is an array, and one of its items answers.

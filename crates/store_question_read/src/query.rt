@@ -3,16 +3,16 @@
 ghost use Rattle.std.specs.Prelude.{◌≡◌, map, []};
 ghost use Rattle.json.specs.Value.{members_view, value_view as data_of};
 ghost use Rattle.store_question_read.specs.Outcome.{AskEach, Asks, Gives, IsQuery};
-ghost use Rattle.store_question_read.specs.Query.{condition as condition_at, entries as entries_at, entry as entry_at, items as items_at, joining_of, kind_or_kinds, listed as listed_at, match_alone as match_alone_at, matching as matching_at, one_at_least, operator_of, operators as operators_at, query, test as test_at, tests as tests_at, together as together_at};
+ghost use Rattle.store_question_read.specs.Query.{condition as condition_at, entries as entries_at, entry as entry_at, items as items_at, joining_of, kind_or_kinds, listed as listed_at, match_alone as match_alone_at, matching as matching_at, one_at_least, operator_of, operators as operators_at, options_in as options_among, query, test as test_at, tests as tests_at, together as together_at};
 
 use crate::conditions::{
-    begins, differs, divided, equals, exactly, filled, lies, of_kind, sized, there, without_options,
+    differs, divided, equals, exactly, filled, found, lies, of_kind, sized, there, with_options,
 };
 use crate::error::{QueryError, operand, operator};
 use crate::made;
 use crate::words::{
     Joining, Listed, Operator, are_of_items, are_operators, begins_with_dollar, has_lone_options,
-    has_operators, joining_named, operator_named,
+    has_operators, joining_named, operator_named, options_in,
 };
 use json::{MAX_DEPTH, Reader, Scratch, Value};
 use std::alloc::{AllocError, Global};
@@ -120,24 +120,31 @@ fn tests(
     members: &[(&str, Value<'_>)],
 ) -> Result<Vec<Question>, QueryError>
     ensures { Gives AskEach result (together_at (members_view members.now)
-        (tests_at (map (λ x. x.now) path.now) (members_view members.now))) }
+        (tests_at (map (λ x. x.now) path.now) (options_among (members_view members.now)) (members_view members.now))) }
 {
     if has_lone_options(members) {
         return Err(operand(alloc, "$options"));
     }
+    let options = options_in(members);
     let mut questions = Vec::new(alloc);
     for (key, body) in members {
-        let question = test(alloc, path, *key, body)?;
+        let question = test(alloc, path, options, *key, body)?;
         questions.push(question)?;
     }
     Ok(questions)
 }
 
-/// What the operator `key` with the operand `body` asks of a path. `Operator` if none has this name, and `Operand` if
-/// the operand doesn't belong under it.
+/// What the operator `key` with the operand `body` asks of a path, with the options of a pattern beside it. `Operator` if
+/// none has this name, and `Operand` if the operand doesn't belong under it.
 #[cycle(query)]
-fn test(alloc: Global, path: &[&str], key: &str, body: &Value<'_>) -> Result<Question, QueryError>
-    ensures { Gives Asks result (test_at (map (λ x. x.now) path.now) key.now (operator_of key.now) (data_of body.now) (λ l. items_at (map (λ x. x.now) path.now) key.now l (data_of body.now)) (operators_at (map (λ x. x.now) path.now) key.now (data_of body.now)) (matching_at (map (λ x. x.now) path.now) key.now (data_of body.now))) }
+fn test(
+    alloc: Global,
+    path: &[&str],
+    options: &str,
+    key: &str,
+    body: &Value<'_>,
+) -> Result<Question, QueryError>
+    ensures { Gives Asks result (test_at (map (λ x. x.now) path.now) options.now key.now (operator_of key.now) (data_of body.now) (λ l. items_at (map (λ x. x.now) path.now) key.now l (data_of body.now)) (operators_at (map (λ x. x.now) path.now) key.now (data_of body.now)) (matching_at (map (λ x. x.now) path.now) key.now (data_of body.now))) }
 {
     let Some(wanted) = operator_named(key) else {
         return Err(operator(alloc, key));
@@ -149,8 +156,8 @@ fn test(alloc: Global, path: &[&str], key: &str, body: &Value<'_>) -> Result<Que
         Operator::Size => sized(alloc, path, key, body),
         Operator::Exists => there(alloc, path, key, body),
         Operator::Mod => divided(alloc, path, key, body),
-        Operator::Regex => begins(alloc, path, key, body),
-        Operator::Options => without_options(alloc, key, body),
+        Operator::Regex => found(alloc, path, options, key, body),
+        Operator::Options => with_options(alloc, key, body),
         Operator::ElementMatch => matching(alloc, path, key, body),
         Operator::Not => {
             let inner = operators(alloc, path, key, body)?;

@@ -2,7 +2,7 @@
 
 ghost use Rattle.std.specs.Prelude.{◌≡◌};
 ghost use Rattle.json.specs.Value.{members_view, value_view as data_of};
-ghost use Rattle.store_question_read.specs.Query.{are_of_items as of_items_in, are_operators as operators_in, begins_with_dollar as dollar_in, has_key as has_key_in, has_lone_options as lone_options_in, has_operators as operators_inside, joining_of, names_operator as operator_named_by, operator_of};
+ghost use Rattle.store_question_read.specs.Query.{are_of_items as of_items_in, are_operators as operators_in, begins_with_dollar as dollar_in, has_key as has_key_in, has_lone_options as lone_options_in, has_operators as operators_inside, joining_of, names_operator as operator_named_by, operator_of, options_in as options_among, text_or_none as text_of_tree};
 
 use bson_model::extjson::de::is_reserved_key;
 use json::Value;
@@ -152,4 +152,26 @@ pub(crate) fn has_lone_options(members: &[(&str, Value<'_>)]) -> bool
     ensures { result ≡ lone_options_in (members_view members.now) }
 {
     has_key(members, "$options") && !has_key(members, "$regex")
+}
+
+/// The text that a tree is, and an empty one for any other tree.
+fn text_or_none<'a>(tree: &'a Value<'_>) -> &'a str
+    ensures { result.now ≡ text_of_tree (data_of tree.now) }
+{
+    match tree {
+        Value::String(text) => *text,
+        _ => "",
+    }
+}
+
+/// The options beside a pattern: the first of them, if that is a text.
+pub(crate) fn options_in<'a>(members: &'a [(&str, Value<'_>)]) -> &'a str
+    ensures { result.now ≡ options_among (members_view members.now) }
+{
+    for (key, body) in members {
+        if *key == "$options" {
+            return text_or_none(body);
+        }
+    }
+    ""
 }

@@ -1,6 +1,6 @@
 //! The indexes of a store: several collections, and several paths of one.
 
-ghost use Rattle.std.specs.Prelude.{◌≡◌, ◌≢◌, ◌⊎◌, ◌↔◌, ◌≤◌, ◌/◌, ℕ, ℤ, List, IfOk, IfSome, IsTrue, OnOk, OnErr, string_bytes};
+ghost use Rattle.std.specs.Prelude.{◌≡◌, ◌≢◌, ◌⊎◌, ◌↔◌, ◌≤◌, ◌≤ℤ◌, ◌/◌, ℕ, ℤ, List, IfOk, IfSome, IsTrue, OnOk, OnErr, string_bytes};
 ghost use Rattle.store_question.specs.Filters.{filter_of, path_of};
 ghost use Rattle.store_model.specs.Filter.{Path};
 ghost use Rattle.bson_store.specs.Find.{AreAsBefore, AreSame, FindsOf, FindEach, Finds, Has, HasNone, MissEach, Misses, MissesIn, RenewEach, Renews, coll_of, keys_of, kinds_of};
@@ -302,6 +302,31 @@ impl Indexes {
             best = better_by_ranges(self.alloc, index, coll, front.ranges, best)?;
         }
         Ok(best)
+    }
+
+    /// The part of the document that comes behind `count` others of those that lie in a range, by an index of the
+    /// collection on its path: from the least part on, or from the greatest on. None: no index is on the path, or there
+    /// are no more than `count`. Documents that are wide aren't counted.
+    pub fn part_behind(
+        &self,
+        coll: &[u8],
+        range: &Range,
+        count: usize,
+        descending: bool,
+    ) -> Option<i64>
+        ensures { IfSome result (λ q. (range.now.low ≤ℤ q) × (q ≤ℤ range.now.high)) }
+    {
+        if range.low > range.high {
+            return None;
+        }
+        for index in self.list.as_slice() {
+            if index.is_on(coll, range.path.as_slice()) {
+                return index
+                    .ranks
+                    .part_behind(range.rank, range.low, range.high, count, descending);
+            }
+        }
+        None
     }
 }
 

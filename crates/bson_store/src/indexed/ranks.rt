@@ -81,4 +81,39 @@ impl Ranks {
         }
         Ok(Some(places))
     }
+
+    /// The part under which that place stands that comes behind `count` others, of those under a rank and the parts from
+    /// one to another: from the least part on, or from the greatest on. None: there are no more than `count`.
+    pub fn part_behind(
+        &self,
+        rank: u8,
+        low: i64,
+        high: i64,
+        count: usize,
+        descending: bool,
+    ) -> Option<i64>
+        requires { low ≤ℤ high }
+        ensures { IfSome result (λ q. (low ≤ℤ q) × (q ≤ℤ high)) }
+    {
+        let mut keys = self
+            .keys
+            .range((rank, low, i64::MIN)..=(rank, high, i64::MAX));
+        let key = if descending {
+            keys.nth_back(count)?
+        } else {
+            keys.nth(count)?
+        };
+        between_ends(key.1, low, high)
+    }
+}
+
+/// A part, if it is none beyond these ends.
+fn between_ends(part: i64, low: i64, high: i64) -> Option<i64>
+    ensures { IfSome result (λ q. (low ≤ℤ q) × (q ≤ℤ high)) }
+{
+    if low <= part && part <= high {
+        Some(part)
+    } else {
+        None
+    }
 }

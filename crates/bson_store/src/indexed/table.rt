@@ -1,6 +1,6 @@
 //! The table with indexes: calls are those of the table, with the same promises.
 
-ghost use Rattle.std.specs.Prelude.{◌≡◌, ◌≢◌, ◌↔◌, ◌+ℤ◌, ℕ, ℤ, pos, List, [], filter, length, false, IsTrue, IfOk, IfErr, IsErrAnd, IsErrOf, OnOk};
+ghost use Rattle.std.specs.Prelude.{◌≡◌, ◌≢◌, ◌↔◌, ◌≤ℤ◌, ◌+ℤ◌, ℕ, ℤ, pos, List, [], filter, length, false, IsTrue, IfOk, IfErr, IfSome, IsErrAnd, IsErrOf, OnOk};
 ghost use Rattle.sqlite.specs.Held.{state};
 ghost use Rattle.sqlite.specs.State.{HasCleanDisk, Survives};
 ghost use Rattle.store_table.specs.Crash.{AddsNothing};
@@ -22,6 +22,7 @@ use crate::indexed::changing::{note_changes, note_rows, rewrite_placed};
 use crate::indexed::front::Front;
 use crate::indexed::gathering::gather;
 use crate::indexed::indexes::Indexes;
+use crate::indexed::range::Range;
 use crate::indexed::reading::visit_places;
 use sqlite::{Alter, Connection};
 use std::alloc::Global;
@@ -409,5 +410,20 @@ impl<S: Alter + Drop> IndexedTable<S> {
             Some(places) => visit_places(&mut self.table, coll, places.as_slice(), visitor),
             None => self.table.visit_bodies(coll, visitor),
         }
+    }
+
+    /// The part of the document that comes behind `count` others of those of a collection that lie in a range, as
+    /// `Indexes::part_behind` returns it.
+    pub fn part_behind(
+        &self,
+        coll: &str,
+        range: &Range,
+        count: usize,
+        descending: bool,
+    ) -> Option<i64>
+        ensures { IfSome result (λ q. (range.now.low ≤ℤ q) × (q ≤ℤ range.now.high)) }
+    {
+        self.indexes
+            .part_behind(coll.as_bytes(), range, count, descending)
     }
 }

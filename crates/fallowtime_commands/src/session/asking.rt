@@ -75,7 +75,7 @@ pub(crate) fn find_meant<S: Alter + Drop>(
 {
     let bodies = Vec::new(alloc);
     let copies = Copies { bodies, alloc };
-    let meant = take_drafted(store, edits, name, question, Meant { copies, many })?;
+    let meant = take_drafted(alloc, store, edits, name, question, Meant { copies, many })?;
     Ok(meant.copies.bodies)
 }
 
@@ -99,6 +99,7 @@ pub(crate) fn find_first<S: Alter + Drop>(
 
 /// How many documents a part has of those of the collection `name` that answer a question.
 fn count_part<S: Alter + Drop>(
+    alloc: Global,
     store: &mut Store<S>,
     edits: &DraftedEdits,
     name: &str,
@@ -110,12 +111,13 @@ fn count_part<S: Alter + Drop>(
     ensures indexes { KeepsIndexes store.old store.new }
     ensures crash { AddsNothing (store_state S.Store store.old) (store_state S.Store store.new) }
 {
-    let count = take_drafted(store, edits, name, question, Count { number: 0 })?;
+    let count = take_drafted(alloc, store, edits, name, question, Count { number: 0 })?;
     Ok(counted(part, count.number))
 }
 
 /// How many these are.
 pub(crate) fn count<S: Alter + Drop>(
+    alloc: Global,
     store: &mut Store<S>,
     edits: &DraftedEdits,
     name: &str,
@@ -128,7 +130,7 @@ pub(crate) fn count<S: Alter + Drop>(
     ensures crash { AddsNothing (store_state S.Store store.old) (store_state S.Store store.new) }
     ensures shape { IfOk result (IsAnswerTo (requests.Count question.now part.now)) }
 {
-    number(count_part(store, edits, name, question, part))
+    number(count_part(alloc, store, edits, name, question, part))
 }
 
 /// The different values at a path of the documents of the collection `name` that answer a question, with how many of these
@@ -147,7 +149,7 @@ fn values_at<S: Alter + Drop>(
     ensures crash { AddsNothing (store_state S.Store store.old) (store_state S.Store store.new) }
 {
     let values = Distinct::new(alloc, path);
-    let taken = take_drafted(store, edits, name, question, Differing { values })?;
+    let taken = take_drafted(alloc, store, edits, name, question, Differing { values })?;
     Ok(taken.values.into_counted())
 }
 

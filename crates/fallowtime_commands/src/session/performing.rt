@@ -65,7 +65,9 @@ pub(crate) fn perform_drafted<S: Alter + Drop>(
         Request::FindAndChange(question, wanted, work) => {
             find_and_change(alloc, store, edits, name, question, wanted, work)
         }
-        Request::Count(question, part) => { as_reason(count(store, edits, name, question, part)) }
+        Request::Count(question, part) => {
+            as_reason(count(alloc, store, edits, name, question, part))
+        }
         Request::Distinct(path, question, counts) => {
             as_reason(distinct(alloc, store, edits, name, path, question, *counts))
         }

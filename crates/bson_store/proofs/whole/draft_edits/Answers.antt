@@ -1,4 +1,4 @@
-use Rattle.std.proofs.Common.{◌≡◌, ◌++◌, ◌∷◌, [], ap, suc, List, take, take_all, drop, Some, Ok, Err, sym, subst, refl, ◌∙◌, arith}
+use Rattle.std.proofs.Common.{◌≡◌, ◌++◌, ◌∷◌, [], ap, suc, List, take, take_all, drop, Ok, Err, sym, subst, refl, ◌∙◌, arith}
 use Rattle.std.proofs.lemmas.List.{take_more}
 use Rattle.sqlite.proofs.StateLemmas.{survives_then}
 use Rattle.bson_store.specs.Calls.{store_state}

@@ -10,11 +10,11 @@ pub returns-in_err-taken-clause-reads : goal.returns-in_err-taken-clause-reads
 returns-in_err-taken-clause-reads g c clean docs are =
     let p = err_from_is_err_and c.from_residual.result c.from_residual.ensures.1 in
     let everything = filter_of c.select_all-everything.result in
-    let first : Answering g.row.T.Denot = record { question = c.args.question; taker = c.args.taker } in
+    let first : Answering g.row.T.Denot = record { alloc = c.args.alloc; question = c.args.question; taker = c.args.taker } in
     rw (p.1, p.2) (none_taken g.T.Take.took first everything (all_front (form_of c.args.question.now) everything c.select_all-everything.ensures) c.args.name.now docs docs c.in_err-taken.field-0.0 (c.in_err-taken.ensures.reads clean docs are))
 
 pub returns-clause-reads : goal.returns-clause-reads
 returns-clause-reads g c clean docs are =
     let everything = filter_of c.select_all-everything.result in
-    let first : Answering g.row.T.Denot = record { question = c.args.question; taker = c.args.taker } in
+    let first : Answering g.row.T.Denot = record { alloc = c.args.alloc; question = c.args.question; taker = c.args.taker } in
     all_taken g.T.Take.took first everything (all_front (form_of c.args.question.now) everything c.select_all-everything.ensures) c.args.name.now docs docs c.in_ok-taken.taken (c.in_ok-taken.ensures.reads clean docs are)

@@ -5,7 +5,7 @@ use Rattle.bson_model.specs.View.{items_of, view}
 use Rattle.bson_model.specs.declared.bson.Bson.{Bson}
 use Rattle.bson_raw.specs.View.{left_of}
 use Rattle.bson_raw.specs.Walk.{steps_from}
-use Rattle.store_pipeline.proofs.WalkLemmas.{AddsLeft, left_end, left_fault, left_more, left_start}
+use Rattle.store_pipeline.proofs.WalkLemmas.{AddsLeft, left_end, left_more, left_start}
 use Rattle.store_question.specs.Filters.{path_of}
 use Rattle.store_model.specs.Filter.{under_places}
 use Rattle.store_pipeline.proofs.LedLemmas.{found_added, led_array, led_other, led_over, none_found, under_none, under_some}

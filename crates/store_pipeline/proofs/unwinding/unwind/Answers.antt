@@ -1,4 +1,4 @@
-use Rattle.std.proofs.Common.{Vec, take_all, ◌+◌, ℕ, List, Err, Ok, get_or, take, sym, subst, arith}
+use Rattle.std.proofs.Common.{Vec, take_all, ◌+◌, ℕ, List, get_or, take, sym, subst, arith}
 use Rattle.std.proofs.lemmas.Result.{err_from_is_err_and}
 use Rattle.std.specs.List.{flat_map}
 use Rattle.std.specs.declared.alloc.Global.{Global}

@@ -2,11 +2,11 @@ use Rattle.std.proofs.Common.{◌≡◌, ◌+◌, ℕ, Bor, map, List, [], drop,
 use Rattle.json.specs.Value.{items_view, members_view, value_view}
 use Rattle.store_question.specs.Asked.{all_of, any_of, no, whole, has_item}
 use Rattle.store_question.specs.declared.question.Question.{Question}
-use Rattle.store_question_read.proofs.LoopLemmas.{each_halt, each_over, each_turn, entries_halt, entries_over, entries_turn, tests_halt, tests_over, tests_turn}
+use Rattle.store_question_read.proofs.LoopLemmas.{each_halt, each_over, each_turn, entries_halt, entries_over, entries_turn, test_of, tests_halt, tests_over, tests_turn}
 use Rattle.store_question_read.proofs.OnwardLemmas.{SoFar, array_seen, failed, leaves_by, names_fails, none_yet, object_seen, onward, when_false, when_true}
 use Rattle.store_question_read.proofs.QueryLemmas.{alone, kinds_of_array, lone_refused, not_alone, other_alone, put_together}
 use Rattle.store_question_read.specs.Outcome.{AskEach, Asks, Fails, Gives}
-use Rattle.store_question_read.specs.Query.{are_of_items, are_operators, begins_with_dollar, condition, each, entries, equal, every, filled, has_operators, holds, is_array, items, keys, match_alone, matching, no_operand, no_operator, one_at_least, operators, query, tests, together}
+use Rattle.store_question_read.specs.Query.{are_of_items, are_operators, options_in, begins_with_dollar, condition, each, entries, equal, every, filled, has_operators, holds, is_array, items, keys, match_alone, matching, no_operand, no_operator, one_at_least, operators, query, tests, together}
 use Rattle.store_question_read.specs.declared.error.QueryError.TheVariants.{Memory}
 use Rattle.store_question_read.specs.declared.words.Listed.TheVariants.{Kinds}
 use Rattle.store_question_read.proofs.query.+query.Goals.{match_alone-in_default-as_slice-via-then-as_slice-lt1, match_alone-in_default-as_slice-via-in-len1+else-eq, match_alone-in_default-as_slice-via-else-as_slice-lt1+else-this-lt2}
@@ -107,7 +107,7 @@ operators-returns-in_err-list t c =
     leaves_by Asks c.from_residual.result error (operators (map (λ x. x.now) c.args.path.now) c.args.key.now (value_view c.args.body.now)) c.from_residual.ensures.1
     (subst (λ j. Fails error (operators (map (λ x. x.now) c.args.path.now) c.args.key.now j)) (sym seen)
     (when_true (are_operators js) (Err error) _ _ (sym c.are_operators.ensures ∙ c.if-are_operators.true)
-    (failed error (together js (tests (map (λ x. x.now) c.args.path.now) js)) (λ qs. Ok (all_of qs)) c.in_err-list.ensures)))
+    (failed error (together js (tests (map (λ x. x.now) c.args.path.now) (options_in js) js)) (λ qs. Ok (all_of qs)) c.in_err-list.ensures)))
 
 pub operators-returns-in_ok-list : goal.operators-returns-in_ok-list
 operators-returns-in_ok-list t c =
@@ -125,29 +125,31 @@ operators-returns-else-are_operators t c =
 
 pub tests-returns-then-has_lone_options : goal.tests-returns-then-has_lone_options
 tests-returns-then-has_lone_options t c =
-    lone_refused (members_view c.args.members.now) (tests (map (λ x. x.now) c.args.path.now) (members_view c.args.members.now)) c.operand.result (sym c.has_lone_options.ensures ∙ c.if-has_lone_options.true) c.operand.ensures
+    lone_refused (members_view c.args.members.now) (tests (map (λ x. x.now) c.args.path.now) (options_in (members_view c.args.members.now)) (members_view c.args.members.now)) c.operand.result (sym c.has_lone_options.ensures ∙ c.if-has_lone_options.true) c.operand.ensures
 
 pub tests-loop-key-init : goal.tests-loop-key-init
-tests-loop-key-init t c = subst (λ (l : List Question). SoFar l (tests (map (λ x. x.now) c.args.path.now) (members_view c.args.members.now)) (tests (map (λ x. x.now) c.args.path.now) (members_view c.args.members.now))) (sym c.new-questions.ensures.items) (none_yet (tests (map (λ x. x.now) c.args.path.now) (members_view c.args.members.now)))
+tests-loop-key-init t c = subst (λ (l : List Question). SoFar l (tests (map (λ x. x.now) c.args.path.now) (options_in (members_view c.args.members.now)) (members_view c.args.members.now)) (tests (map (λ x. x.now) c.args.path.now) (options_in (members_view c.args.members.now)) (members_view c.args.members.now))) (sym c.new-questions.ensures.items) (none_yet (tests (map (λ x. x.now) c.args.path.now) (options_in (members_view c.args.members.now)) (members_view c.args.members.now)))
 
 pub tests-loop-key-preserved : goal.tests-loop-key-preserved
 tests-loop-key-preserved t c =
-    subst (λ (l : List Question). SoFar l (tests (map (λ x. x.now) c.args.path.now) (members_view c.args.members.now)) (tests (map (λ x. x.now) c.args.path.now) (members_view (drop (c.loop-key.key-index + 1) c.args.members.now)))) (sym c.in_ok-push.ensures.items)
-    (tests_turn (map (λ x. x.now) c.args.path.now) c.args.members.now c.loop-key.key-index c.loop-key-item.result c.loop-key.questions.items c.in_ok-question.question c.loop-key-item.is c.loop-key-test.true c.loop-key.invariant c.in_ok-question.ensures)
+    subst (λ (l : List Question). SoFar l (tests (map (λ x. x.now) c.args.path.now) (options_in (members_view c.args.members.now)) (members_view c.args.members.now)) (tests (map (λ x. x.now) c.args.path.now) (options_in (members_view c.args.members.now)) (members_view (drop (c.loop-key.key-index + 1) c.args.members.now)))) (sym c.in_ok-push.ensures.items)
+    (tests_turn (map (λ x. x.now) c.args.path.now) (options_in (members_view c.args.members.now)) c.args.members.now c.loop-key.key-index c.loop-key-item.result c.loop-key.questions.items c.in_ok-question.question c.loop-key-item.is c.loop-key-test.true c.loop-key.invariant
+    (subst (λ (o : List ℕ). Gives Asks (Ok c.in_ok-question.question) (test_of (map (λ x. x.now) c.args.path.now) o c.loop-key-item.result)) c.options_in-options.ensures c.in_ok-question.ensures))
 
 pub tests-returns-in_err-push : goal.tests-returns-in_err-push
 tests-returns-in_err-push t c = leaves_by AskEach c.from_residual-in_err-push.result Memory _ c.from_residual-in_err-push.ensures.1 tt
 
 pub tests-returns : goal.tests-returns
 tests-returns t c =
-    put_together (members_view c.args.members.now) (tests (map (λ x. x.now) c.args.path.now) (members_view c.args.members.now)) (Ok c.loop-key.questions) (sym c.has_lone_options.ensures ∙ c.if-has_lone_options.false)
-    (tests_over (map (λ x. x.now) c.args.path.now) c.args.members.now c.loop-key.key-index c.loop-key.questions c.loop-key-test.false c.loop-key.invariant)
+    put_together (members_view c.args.members.now) (tests (map (λ x. x.now) c.args.path.now) (options_in (members_view c.args.members.now)) (members_view c.args.members.now)) (Ok c.loop-key.questions) (sym c.has_lone_options.ensures ∙ c.if-has_lone_options.false)
+    (tests_over (map (λ x. x.now) c.args.path.now) (options_in (members_view c.args.members.now)) c.args.members.now c.loop-key.key-index c.loop-key.questions c.loop-key-test.false c.loop-key.invariant)
 
 pub tests-returns-in_err-question : goal.tests-returns-in_err-question
 tests-returns-in_err-question t c =
-    put_together (members_view c.args.members.now) (tests (map (λ x. x.now) c.args.path.now) (members_view c.args.members.now)) c.from_residual.result (sym c.has_lone_options.ensures ∙ c.if-has_lone_options.false)
+    put_together (members_view c.args.members.now) (tests (map (λ x. x.now) c.args.path.now) (options_in (members_view c.args.members.now)) (members_view c.args.members.now)) c.from_residual.result (sym c.has_lone_options.ensures ∙ c.if-has_lone_options.false)
     (leaves_by AskEach c.from_residual.result c.in_err-question.field-0.0 _ c.from_residual.ensures.1
-    (tests_halt (map (λ x. x.now) c.args.path.now) c.args.members.now c.loop-key.key-index c.loop-key-item.result c.loop-key.questions.items c.in_err-question.field-0.0 c.loop-key-item.is c.loop-key-test.true c.loop-key.invariant c.in_err-question.ensures))
+    (tests_halt (map (λ x. x.now) c.args.path.now) (options_in (members_view c.args.members.now)) c.args.members.now c.loop-key.key-index c.loop-key-item.result c.loop-key.questions.items c.in_err-question.field-0.0 c.loop-key-item.is c.loop-key-test.true c.loop-key.invariant
+    (subst (λ (o : List ℕ). Fails c.in_err-question.field-0.0 (test_of (map (λ x. x.now) c.args.path.now) o c.loop-key-item.result)) c.options_in-options.ensures c.in_err-question.ensures)))
 
 pub test-returns-in-Eq : goal.test-returns-in-Eq
 test-returns-in-Eq t c = rw (← c.in-Some.ensures, c.in-Eq.is) c.exactly.ensures
@@ -168,10 +170,10 @@ pub test-returns-in-Mod : goal.test-returns-in-Mod
 test-returns-in-Mod t c = rw (← c.in-Some.ensures, c.in-Mod.is) c.divided.ensures
 
 pub test-returns-in-Regex : goal.test-returns-in-Regex
-test-returns-in-Regex t c = rw (← c.in-Some.ensures, c.in-Regex.is) c.begins.ensures
+test-returns-in-Regex t c = rw (← c.in-Some.ensures, c.in-Regex.is) c.found.ensures
 
 pub test-returns-in-Options : goal.test-returns-in-Options
-test-returns-in-Options t c = rw (← c.in-Some.ensures, c.in-Options.is) c.without_options.ensures
+test-returns-in-Options t c = rw (← c.in-Some.ensures, c.in-Options.is) c.with_options.ensures
 
 pub test-returns-in-ElementMatch : goal.test-returns-in-ElementMatch
 test-returns-in-ElementMatch t c = rw (← c.in-Some.ensures, c.in-ElementMatch.is) c.matching.ensures
@@ -278,7 +280,7 @@ matching-returns-in_err-list t c =
     leaves_by Asks c.from_residual.result error (matching (map (λ x. x.now) c.args.path.now) c.args.key.now (value_view c.args.body.now)) c.from_residual.ensures.1
     (subst (λ j. Fails error (matching (map (λ x. x.now) c.args.path.now) c.args.key.now j)) (sym seen)
     (when_true (are_of_items js) (Err error) _ _ (sym c.are_of_items.ensures ∙ c.if-are_of_items.true)
-    (failed error (together js (tests [] js)) (λ qs. Ok (whole (map (λ x. x.now) c.args.path.now) (has_item (all_of qs)))) c.in_err-list.ensures)))
+    (failed error (together js (tests [] (options_in js) js)) (λ qs. Ok (whole (map (λ x. x.now) c.args.path.now) (has_item (all_of qs)))) c.in_err-list.ensures)))
 
 pub matching-returns-in_err-item : goal.matching-returns-in_err-item
 matching-returns-in_err-item t c = leaves_by Asks c.from_residual-in_err-item.result Memory _ c.from_residual-in_err-item.ensures.1 tt

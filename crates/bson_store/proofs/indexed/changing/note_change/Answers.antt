@@ -1,6 +1,5 @@
 use Rattle.std.proofs.Common.{◌≡◌, ◌∙◌, sym, subst, w64, to_z, of_z, arith}
 use Rattle.std.proofs.lemmas.Int.{ints}
-use Rattle.bson_store.specs.Find.{Finds}
 use Rattle.store_table.specs.declared.change.Change.{Change}
 use Rattle.bson_store.specs.Changing.{Forgets, GivesBody}
 use Rattle.bson_store.proofs.IndexWholeLemmas.{change_added, change_rewritten, change_removed}

@@ -1,7 +1,6 @@
 use Rattle.std.proofs.Common.{◌≡◌, ◌<◌, ◌++◌, ◌∷◌, [], ◌∙◌, List, length, take, take_all, sym, ap, subst, arith}
 use Rattle.std.proofs.lemmas.List.{take_more}
 use Rattle.store_table.specs.Change.{with_changes}
-use Rattle.store_table.specs.Rows.{TableRow}
 use Rattle.store_table.specs.declared.change.Change.{Change}
 use Rattle.store_table.proofs.WholeLemmas.{one_change_more}
 use Rattle.bson_store.specs.Changing.{ForgetsRemoved, NoneGives}

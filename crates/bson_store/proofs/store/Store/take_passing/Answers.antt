@@ -1,4 +1,4 @@
-use Rattle.std.proofs.Common.{Err, inl, inr, refl}
+use Rattle.std.proofs.Common.{Err, inr, refl}
 use Rattle.std.proofs.lemmas.Result.{err_from_is_err_and}
 use Rattle.store_question.specs.Filters.{filter_of}
 use Rattle.bson_store.specs.Fronts.{Passes}

@@ -7,8 +7,8 @@ use Rattle.store_asked.proofs.answering.AnsweringTake.take.Goals as goal
 pub returns-in_ok-take-clause-took : goal.returns-in_ok-take-clause-took
 returns-in_ok-take-clause-took g c first out d kept is h =
     let old : Answering g.row.T.Denot = c.args.self.now in
-    let new : Answering g.row.T.Denot = record { question = old.question; taker = c.take.new.self } in
-    handed_on g.T.Take.took first old (bytes_of c.args.document) out d kept is c.answers.result c.answers.ensures new (search rules) refl (λ es took. c.in_ok-take.ensures.took first.taker es d kept is took) h
+    let new : Answering g.row.T.Denot = record { alloc = old.alloc; question = old.question; taker = c.take.new.self } in
+    handed_on g.T.Take.took first old (bytes_of c.args.document) out d kept is c.in_ok-held.held c.in_ok-held.ensures new (search rules) refl (λ es took. c.in_ok-take.ensures.took first.taker es d kept is took) h
 
-pub returns-else-answers-clause-took : goal.returns-else-answers-clause-took
-returns-else-answers-clause-took g c first out d kept is h = passed_over g.T.Take.took first c.args.self.now (bytes_of c.args.document) out d kept is c.answers.result c.answers.ensures (search rules) h
+pub returns-else-held-clause-took : goal.returns-else-held-clause-took
+returns-else-held-clause-took g c first out d kept is h = passed_over g.T.Take.took first c.args.self.now (bytes_of c.args.document) out d kept is c.in_ok-held.held c.in_ok-held.ensures (search rules) h

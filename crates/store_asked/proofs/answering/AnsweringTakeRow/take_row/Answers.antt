@@ -7,8 +7,8 @@ use Rattle.store_asked.proofs.answering.AnsweringTakeRow.take_row.Goals as goal
 pub returns-clause-took : goal.returns-clause-took
 returns-clause-took g c first out d kept is h =
     let old : Answering g.row.T.Denot = c.args.self.now in
-    let new : Answering g.row.T.Denot = record { question = old.question; taker = c.take_row.new.self } in
-    handed_on g.T.Take.took first old (bytes_of c.args.document) out d kept is c.answers.result c.answers.ensures new (search rules) refl (λ es took. c.in_ok-take_row.ensures.took first.taker es d kept is took) h
+    let new : Answering g.row.T.Denot = record { alloc = old.alloc; question = old.question; taker = c.take_row.new.self } in
+    handed_on g.T.Take.took first old (bytes_of c.args.document) out d kept is c.in_ok-held.held c.in_ok-held.ensures new (search rules) refl (λ es took. c.in_ok-take_row.ensures.took first.taker es d kept is took) h
 
-pub returns-then-not-answers-clause-took : goal.returns-then-not-answers-clause-took
-returns-then-not-answers-clause-took g c first out d kept is h = passed_over g.T.Take.took first c.args.self.now (bytes_of c.args.document) out d kept is c.answers.result c.answers.ensures (search rules) h
+pub returns-then-not-held-clause-took : goal.returns-then-not-held-clause-took
+returns-then-not-held-clause-took g c first out d kept is h = passed_over g.T.Take.took first c.args.self.now (bytes_of c.args.document) out d kept is c.in_ok-held.held c.in_ok-held.ensures (search rules) h

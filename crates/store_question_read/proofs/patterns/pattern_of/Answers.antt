@@ -1,5 +1,0 @@
-use Rattle.store_question_read.proofs.PatternLemmas.{no_pattern}
-use Rattle.store_question_read.proofs.patterns.pattern_of.Goals as goal
-
-pub returns-in_default : goal.returns-in_default
-returns-in_default c = λ v s. no_pattern c.args.value v c.in_default.not-String c.in_default.not-RegularExpression s
