@@ -20,7 +20,7 @@ use Rattle.bson_meaning.specs.JsonReserved.{has_reserved, reserved_in, reserved_
 use Rattle.bson_meaning.specs.Views.{IsItemsRest, IsRest}
 use Rattle.bson_meaning.proofs.ViewLemmas.{last_member, next_item, next_member}
 use Rattle.bson_model.specs.JsonKeys.{is_reserved, key_of, of_code, scope_key}
-use Rattle.bson_model.specs.JsonWrite.{write, write_members}
+use Rattle.bson_model.specs.JsonWrite.{write}
 use Rattle.bson_model.specs.declared.extjson.ser.Mode.{Mode}
 use Rattle.bson_model.specs.declared.extjson.ser.Mode.TheVariants.{Canonical}
 use Rattle.bson_raw.specs.Convert.{SpellsRawValue}
@@ -86,10 +86,10 @@ leaf_added style (raw.array bs) v old new a is = absurd a.is_form
 leaf_added style (raw.document bs) v old new a is = absurd a.is_form
 leaf_added style (raw.scoped_code t bs) v old new a is = absurd a.is_form
 
-pub leaf_form : (style : Style) (r : RawValue) (q : Result (Unit {0}) Unwritten) (old new : Written) → OnOk q (AddsLeaf style r old new) → OnOk q ((v : Value) → SpellsRawValue r v → AddsValue style v old new)
+pub leaf_form : {A : Type 0} (style : Style) (r : RawValue) (q : Result A Unwritten) (old new : Written) → OnOk q (AddsLeaf style r old new) → OnOk q ((v : Value) → SpellsRawValue r v → AddsValue style v old new)
 leaf_form style r q old new = on_ok_weaker q (λ a v is. leaf_added style r v old new a is)
 
-pub leaf_before : (style : Style) (r : RawValue) (q : Result (Unit {0}) Unwritten) (old new : Written) → OnOk q (AddsLeaf style r old new) → OnOk q (new.before ≡ old.before)
+pub leaf_before : {A : Type 0} (style : Style) (r : RawValue) (q : Result A Unwritten) (old new : Written) → OnOk q (AddsLeaf style r old new) → OnOk q (new.before ≡ old.before)
 leaf_before style r q old new = on_ok_weaker q (λ a. a.adds.1)
 
 -- ---- members in their order

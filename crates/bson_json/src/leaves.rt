@@ -1,11 +1,12 @@
 //! Values with nothing inside.
 
-ghost use Rattle.std.specs.Prelude.{ℕ, IfErr, OnOk};
+ghost use Rattle.std.specs.Prelude.{ℕ, IfErr, IfOk, IsTrue, OnOk};
 ghost use Rattle.bson_base.specs.Scalars.{id_bytes};
 ghost use Rattle.bson_base.specs.Value.{Value, db_pointer, double as double_of, regex as regex_of, timestamp as timestamp_of};
 ghost use Rattle.bson_raw.specs.Convert.{SpellsRawValue};
 ghost use Rattle.bson_raw.specs.Raw.{ref_value};
 ghost use Rattle.bson_json.specs.Added.{AddsLeaf, AddsScalar};
+ghost use Rattle.bson_json.specs.Settling.{IsNoRegex, ShowsSettled};
 ghost use Rattle.bson_json.specs.Straight.{IfUnseen, IsLeaf, IsStraight, IsStraightScalar};
 
 use crate::parts::wrap_text;
@@ -76,7 +77,7 @@ fn print_pointer_in(
 }
 
 /// Writes a value with nothing inside. `Unseen` of a double that has no text in this style.
-pub(crate) fn print_leaf(
+fn print_leaf(
     alloc: Global,
     value: RawBsonRef<'_>,
     style: Style,
@@ -111,4 +112,31 @@ pub(crate) fn print_leaf(
         }
     };
     Ok(printed?)
+}
+
+/// Whether a value is no regular expression, whose options may be out of order.
+fn is_no_regex(value: &RawBsonRef<'_>) -> bool
+    ensures { IsTrue result → IsNoRegex value.now }
+{
+    !matches!(value, RawBsonRef::RegularExpression(_))
+}
+
+/// Writes a value with nothing inside, and returns whether it is known that nothing of it is to be settled. `Unseen` of
+/// a double that has no text in this style.
+pub(crate) fn print_settled_leaf(
+    alloc: Global,
+    value: RawBsonRef<'_>,
+    style: Style,
+    out: &mut Writer,
+) -> Result<bool, Unwritten>
+    requires leaf { IsLeaf (ref_value value) }
+    ensures form { OnOk result (AddsLeaf style (ref_value value.entry) out.old out.new) }
+    ensures settled { IfOk result (λ is_settled. IsTrue is_settled → ShowsSettled (ref_value value.entry)) }
+    ensures seen { IfErr result (IfUnseen ((inner : ℕ) (v : Value) → SpellsRawValue (ref_value value.entry) v
+        → IsStraight style inner v → ⊥)) }
+{
+    match print_leaf(alloc, value, style, out) {
+        Ok(()) => Ok(is_no_regex(&value)),
+        Err(unwritten) => Err(unwritten),
+    }
 }

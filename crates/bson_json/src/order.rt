@@ -24,6 +24,8 @@ use std::alloc::Global;
 pub(crate) fn value_in<'a>(element: &RawElement<'a>) -> Option<RawBsonRef<'a>>
     ensures shown { IfSome result (λ r. (v : Value) → value_kind v ≡ (parts_of element.now).tag
         → SpellsValue (parts_of element.now).payload v → SpellsRawValue (ref_value r) v) }
+    ensures spelled { IfSome result (λ r. (v : Value) → SpellsRawValue (ref_value r) v
+        → (value_kind v ≡ (parts_of element.now).tag) × SpellsValue (parts_of element.now).payload v) }
     ensures fault { IfNone result ((v : Value) → value_kind v ≡ (parts_of element.now).tag
         → SpellsValue (parts_of element.now).payload v → ⊥) }
 {

@@ -1,6 +1,6 @@
 -- Reading goes on from what is read so far.
 use Rattle.std.proofs.Common.{◌≡◌, ◌<◌, ◌+◌, ℕ, List, [], ◌∷◌, ◌++◌, map, length, drop, get_or, Bool, true, false, cond, Option, Some, None, Result, Ok, Err, IsErrAnd, Bor, Vec, Global, refl, sym, ap, ◌∙◌, rules, arith}
-use Rattle.std.specs.Prelude.{◌||◌, ◌≤◌, bytes_eq, if◌then◌else◌, is_some, option_map}
+use Rattle.std.specs.Prelude.{◌||◌, ◌&&◌, ◌≤◌, bytes_eq, if◌then◌else◌, is_some, option_map}
 use Rattle.std.proofs.lemmas.List.{drop_more}
 use Rattle.std.proofs.lemmas.Result.{err_from_is_err_and}
 use Rattle.json.specs.Json as json
@@ -12,7 +12,7 @@ use Rattle.bson_base.specs.Value.{Value, Items, no_items, item, Members, no_memb
 use Rattle.bson_model.specs.Keyed.{Key}
 use Rattle.bson_model.specs.Keyed as keyed
 use Rattle.bson_model.proofs.EqualLemmas.{look_up-members_of}
-use Rattle.bson_model.specs.JsonKeys.{is_reserved}
+use Rattle.bson_model.specs.JsonKeys.{is_reserved, key_of, of_code, scope_key}
 use Rattle.bson_model.specs.JsonRead.{code_and_scope}
 use Rattle.bson_model.specs.View.{view, items_of, members_of}
 use Rattle.bson_model.specs.declared.bson.Bson.{Bson}
@@ -183,12 +183,6 @@ pair_many k l (m ∷ []) h = absurd (omega (arith, h))
 pair_many k l (m ∷ n ∷ []) h = absurd (omega (arith, h))
 pair_many k l (m ∷ n ∷ o ∷ ms) h = refl
 
-pub typed_many : (ms : List Entry) → 3 ≤ length ms → read_typed (members_view ms) ≡ Err NotExtendedJson
-typed_many [] h = absurd (omega (arith, h))
-typed_many (m ∷ []) h = absurd (omega (arith, h))
-typed_many (m ∷ n ∷ []) h = absurd (omega (arith, h))
-typed_many (m ∷ n ∷ o ∷ ms) h = refl
-
 pub typed_at : (v : Tree Global) (es : List Entry) → value_view v ≡ object (members_view es) → any_reserved (members_view es) ≡ true → read (value_view v) ≡ read_typed (members_view es)
 typed_at v es seen has = ap read seen ∙ ap (λ b. if b then read_typed (members_view es) else (read_members (members_view es) no_members >>= λ ms. Ok (document ms))) has
 
@@ -197,18 +191,44 @@ document_at v es seen has = ap read seen ∙ ap (λ b. if b then read_typed (mem
 
 -- ---- code with its scope
 
-pub two_at : (es : List Entry) (d e f g : Entry) → 2 ≤ length es → length es < 3
-    → members_view es ≡ json.member (get_or es 0 d).0.now (value_view (get_or es 0 e).1) (json.member (get_or es 1 f).0.now (value_view (get_or es 1 g).1) json.no_members)
-two_at [] d e f g h k = absurd (omega (arith, h))
-two_at (m ∷ []) d e f g h k = absurd (omega (arith, h))
-two_at (m ∷ n ∷ []) d e f g h k = refl
-two_at (m ∷ n ∷ o ∷ es) d e f g h k = absurd (omega (arith, k))
+swapped : (a b : Bool) → a && b ≡ b && a
+swapped true true = refl
+swapped true false = refl
+swapped false true = refl
+swapped false false = refl
 
-pub first_way : (ms : json.Members) (k l : List ℕ) (j i : Json) → ms ≡ json.member k j (json.member l i json.no_members) → is_code_and_scope k l ≡ true → read_typed ms ≡ read_scoped j i
-first_way ms k l j i e h = ap read_typed e ∙ rw h refl
+abbrev pub read_pair : Json × Json → Result Value Error
+read_pair p = read_scoped p.0 p.1
 
-pub other_way : (ms : json.Members) (k l : List ℕ) (j i : Json) → ms ≡ json.member k j (json.member l i json.no_members) → is_code_and_scope k l ≡ false → is_code_and_scope l k ≡ true → read_typed ms ≡ read_scoped i j
-other_way ms k l j i e h g = ap read_typed e ∙ rw (h, g) refl
+-- `first` says that the code comes first, and `second` that it comes last
+abbrev pair_if : (first second : Bool) (j i : Json) → Result (Json × Json) Error
+pair_if first second j i = if first then Ok (j, i) else if second then Ok (i, j) else Err NotExtendedJson
+
+scoped_if : (first second : Bool) (j i : Json) → (if first then read_scoped j i else if second then read_scoped i j else Err NotExtendedJson) ≡ (pair_if first second j i >>= read_pair)
+scoped_if true second j i = refl
+scoped_if false true j i = refl
+scoped_if false false j i = refl
+
+-- an object with more than one member is code with its scope, or nothing
+pub typed_scoped : (ms : List Entry) → 2 ≤ length ms → read_typed (members_view ms) ≡ (bodies_in (key_of of_code) scope_key (members_view ms) >>= read_pair)
+typed_scoped [] h = absurd (omega (arith, h))
+typed_scoped (m ∷ []) h = absurd (omega (arith, h))
+typed_scoped (m ∷ n ∷ []) h =
+    let j = value_view m.1 in
+    let i = value_view n.1 in
+    let first = is_code_and_scope m.0.now n.0.now in
+    ap (λ (b : Bool). if first then read_scoped j i else if b then read_scoped i j else Err NotExtendedJson) (swapped (bytes_eq n.0.now (key_of of_code)) (bytes_eq m.0.now scope_key))
+    ∙ scoped_if first (bytes_eq m.0.now scope_key && bytes_eq n.0.now (key_of of_code)) j i
+typed_scoped (m ∷ n ∷ o ∷ ms) h = refl
+
+pub pair_fails : (e : Error) (ms : List Entry) → 2 ≤ length ms → Fails e (bodies_in (key_of of_code) scope_key (members_view ms)) → Fails e (read_typed (members_view ms))
+pair_fails e ms h fails = Fails-along e _ _ (typed_scoped ms h) (Fails-bind e (bodies_in (key_of of_code) scope_key (members_view ms)) read_pair fails)
+
+pub scoped_of : (ms : List Entry) (j i : Json) → 2 ≤ length ms → bodies_in (key_of of_code) scope_key (members_view ms) ≡ Ok (j, i) → read_typed (members_view ms) ≡ read_scoped j i
+scoped_of ms j i h is = typed_scoped ms h ∙ ap (λ x. x >>= read_pair) is
+
+pub text_fails : (e : Error) (j i : Json) → Fails e (text_of j) → Fails e (read_scoped j i)
+text_fails e j i fails = Fails-bind e (text_of j) (λ t. read_scope i >>= λ o. Ok (code_and_scope t o)) fails
 
 pub scoped_ok : (j i : Json) (s : List ℕ) (o : Option Members) → text_of j ≡ Ok s → read_scope i ≡ Ok o → read_scoped j i ≡ Ok (code_and_scope s o)
 scoped_ok j i s o code scope = rw (code, scope) refl

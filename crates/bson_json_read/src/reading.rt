@@ -5,9 +5,9 @@ ghost use Rattle.json.specs.Value.{value_view as data_of, items_view, members_vi
 ghost use Rattle.bson_base.specs.Value.{no_members};
 ghost use Rattle.bson_model.specs.View.{view, items_of, content};
 ghost use Rattle.bson_json_read.specs.Outcome.{GivesReading};
-ghost use Rattle.bson_json_read.specs.Reading.{any_reserved, Adds, ParsesText, is_code_and_scope as code_and_scope_keys, read as value_of, read_items as items_read, read_members as members_read, read_scope as scope_of, read_top, read_typed as typed_of, ReadsText, ReadsValueText};
+ghost use Rattle.bson_json_read.specs.Reading.{any_reserved, Adds, ParsesText, read as value_of, read_items as items_read, read_members as members_read, read_scope as scope_of, read_top, read_typed as typed_of, ReadsText, ReadsValueText};
 
-use crate::bodies::{own_text, read_wrapped};
+use crate::bodies::{own_text, pair, read_wrapped};
 use crate::error::{Error, Result};
 use crate::texts::read_number;
 use bson_model::extjson::de::{is_reserved_key, with_scope};
@@ -84,42 +84,27 @@ fn read_members(alloc: Global, members: &[(&str, Value<'_>)], levels: u32) -> Re
 {
     let mut document = Document::new(alloc);
     for (key, value) in members {
-        let value = read(alloc, value, levels)?;
-        add(&mut document, String::from_str(alloc, *key)?, value)?;
+        let key = String::from_str(alloc, *key)?;
+        add(&mut document, key, read(alloc, value, levels)?)?;
     }
     Ok(document)
-}
-
-/// Whether these are the keys of a code and of its scope.
-fn is_code_and_scope(code: &str, scope: &str) -> bool
-    ensures { result ≡ code_and_scope_keys code.now scope.now }
-{
-    code == "$code" && scope == "$scope"
 }
 
 /// The value of an object with a reserved key, a scope with at most `levels` levels. `NotExtendedJson` if the object
 /// has no form of a value, else the error of its body.
 #[cycle(read)]
-fn read_typed(alloc: Global, members: &[(&str, Value<'_>)], levels: u32) -> Result<Bson>
+fn read_typed<'a>(alloc: Global, members: &[(&'a str, Value<'a>)], levels: u32) -> Result<Bson>
     ensures { GivesReading view result (typed_of (members_view members.now)) }
 {
     match members {
         [] => Err(Error::NotExtendedJson),
         [(key, value)] => read_wrapped(alloc, *key, value),
-        [(key, value), (other_key, other)] => {
-            if is_code_and_scope(*key, *other_key) {
-                let code = own_text(alloc, value)?;
-                let scope = read_scope(alloc, other, levels)?;
-                Ok(with_scope(code, scope))
-            } else if is_code_and_scope(*other_key, *key) {
-                let other_code = own_text(alloc, other)?;
-                let other_scope = read_scope(alloc, value, levels)?;
-                Ok(with_scope(other_code, other_scope))
-            } else {
-                Err(Error::NotExtendedJson)
-            }
+        [_, _, ..] => {
+            let (code, scope) = pair(members, "$code", "$scope")?;
+            let code = own_text(alloc, code)?;
+            let scope = read_scope(alloc, scope, levels)?;
+            Ok(with_scope(code, scope))
         }
-        [_, _, _, ..] => Err(Error::NotExtendedJson),
     }
 }
 

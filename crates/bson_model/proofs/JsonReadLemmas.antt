@@ -1,5 +1,5 @@
 -- Reading goes on from what is read so far.
-use Rattle.std.proofs.Common.{◌≡◌, ℕ, List, [], ◌∷◌, ◌++◌, map, Option, Some, None, is_some, MatchOption, IsErrAnd, Result, Ok, Err, String, Global, string_bytes, string_cmp, true, false, Less, Greater, is_eq, nat_cmp, bytes_eq, refl, sym, ap, ◌∙◌, subst, append_assoc}
+use Rattle.std.proofs.Common.{◌≡◌, ◌<◌, ◌≤◌, ◌&&◌, if◌then◌else◌, ℕ, Bool, List, [], ◌∷◌, ◌++◌, length, map, Option, IsErrAnd, Result, Ok, Err, String, Global, string_bytes, string_cmp, true, false, Less, Greater, is_eq, nat_cmp, bytes_eq, refl, sym, ap, ◌∙◌, subst, append_assoc, arith}
 use Rattle.std.specs.List.{AllByRecursion}
 use Rattle.std.specs.List.Sorted.{IsStrictlySortedBy}
 use Rattle.std.specs.Map.{keys_of}
@@ -13,9 +13,10 @@ use Rattle.serde_json.specs.Data.{Data}
 use Rattle.serde_json.specs.declared.value.Value as json
 use Rattle.bson_base.specs.Value.{Value, Items, no_items, item, Members, no_members, member}
 use Rattle.bson_pairs.specs.Keyed.{Key, put}
-use Rattle.bson_model.specs.JsonKeys.{key_of, of_code, scope_key}
+use Rattle.bson_model.specs.JsonKeys.{key_of, of_code, scope_key, reserved_of}
 use Rattle.bson_base.specs.Answer.{◌>>=◌}
-use Rattle.bson_model.specs.JsonRead.{Fails, GivesReading, read, read_items, read_members, read_typed, text_of, read_scope, code_and_scope}
+use Rattle.bson_model.specs.JsonRead.{Fails, GivesReading, read, read_items, read_members, read_typed, read_wrapped, text_of, read_scope, code_and_scope}
+use Rattle.bson_model.specs.JsonScoped.{scoped_parts}
 use Rattle.bson_model.specs.View.{view, items_of, members_of}
 use Rattle.bson_model.specs.declared.bson.Bson.{Bson}
 use Rattle.bson_model.specs.declared.extjson.de.Error.{Error}
@@ -179,18 +180,41 @@ members_end all left ps so none = so.reads ∙ ap (λ us. after_members (members
 
 -- ---- code with its scope
 
-pub typed_two : (es fs gs : List Entry) (k l : String Global) (v w : json.Value)
-    → es ≡ (k, v) ∷ fs → fs ≡ (l, w) ∷ gs → gs ≡ [] → bytes_eq (string_bytes k) (key_of of_code) ≡ true → bytes_eq (string_bytes l) scope_key ≡ true
-    → read_typed (members_view es) ≡ (text_of (data_of v) >>= λ s. read_scope (data_of w) >>= λ o. Ok (code_and_scope s o))
-typed_two es fs gs k l v w first second third code scope = rw (first, second, third, code, scope) refl
+abbrev pub beside : Data → List ℕ → Result (List ℕ × Data) Error
+beside i t = Ok (t, i)
 
-pub none_left : {A : Type 0} (r : Option A) (xs ys : List Entry) (Q : A → Type 0) → is_some r ≡ false → MatchOption r ((xs ≡ []) × (ys ≡ [])) Q → xs ≡ []
-none_left None xs ys Q h m = m.0
-none_left (Some x) xs ys Q h m = cc h
+abbrev pub read_beside : List ℕ × Data → Result Value Error
+read_beside p = read_scope p.1 >>= λ o. Ok (code_and_scope p.0 o)
 
-pub after_text : (s : List ℕ) (d e : Data) (o : Option Members) → text_of d ≡ Ok s → read_scope e ≡ Ok o
-    → (text_of d >>= λ u. read_scope e >>= λ p. Ok (code_and_scope u p)) ≡ Ok (code_and_scope s o)
-after_text s d e o code scope = rw (code, scope) refl
+abbrev parts_if : Bool → Data → Data → Result (Data × Data) Error
+parts_if b j i = if b then Ok (j, i) else Err DeserializationError
 
-pub after_text_fails : (x : Error) (s : List ℕ) (d e : Data) → text_of d ≡ Ok s → Fails x (read_scope e) → Fails x (text_of d >>= λ u. read_scope e >>= λ p. Ok (code_and_scope u p))
-after_text_fails x s d e code scope = rw code (Fails-bind x (read_scope e) (λ p. Ok (code_and_scope s p)) scope)
+scoped_after : (r : Result (List ℕ) Error) (i : Data) → (r >>= λ t. read_scope i >>= λ o. Ok (code_and_scope t o)) ≡ ((r >>= beside i) >>= read_beside)
+scoped_after (Ok t) i = refl
+scoped_after (Err e) i = refl
+
+scoped_if : (b : Bool) (j i : Data) → (if b then (text_of j >>= λ t. read_scope i >>= λ o. Ok (code_and_scope t o)) else Err DeserializationError)
+    ≡ ((parts_if b j i >>= λ p. text_of p.0 >>= beside p.1) >>= read_beside)
+scoped_if true j i = scoped_after (text_of j) i
+scoped_if false j i = refl
+
+-- an object with more than one member is code with its scope, or nothing
+scoped_whole : (es : List Entry) → 2 ≤ length es → read_typed (members_view es) ≡ (scoped_parts (members_view es) >>= read_beside)
+scoped_whole [] h = absurd (omega (arith, h))
+scoped_whole (m ∷ []) h = absurd (omega (arith, h))
+scoped_whole (m ∷ n ∷ []) h = scoped_if (bytes_eq (string_bytes m.0) (key_of of_code) && bytes_eq (string_bytes n.0) scope_key) (data_of m.1) (data_of n.1)
+scoped_whole (m ∷ n ∷ o ∷ es) h = refl
+
+pub parts_fail : (e : Error) (es : List Entry) → 2 ≤ length es → Fails e (scoped_parts (members_view es)) → Fails e (read_typed (members_view es))
+parts_fail e es h fails = Fails-along e _ _ (scoped_whole es h) (Fails-bind e (scoped_parts (members_view es)) read_beside fails)
+
+pub scope_fails : (e : Error) (es : List Entry) (s : List ℕ) (d : Data) → 2 ≤ length es → scoped_parts (members_view es) ≡ Ok (s, d) → Fails e (read_scope d) → Fails e (read_typed (members_view es))
+scope_fails e es s d h parts fails = Fails-along e _ _ (scoped_whole es h ∙ ap (λ r. r >>= read_beside) parts) (Fails-bind e (read_scope d) (λ o. Ok (code_and_scope s o)) fails)
+
+pub scoped_read : (es : List Entry) (s : List ℕ) (d : Data) (o : Option Members) → 2 ≤ length es → scoped_parts (members_view es) ≡ Ok (s, d) → read_scope d ≡ Ok o → read_typed (members_view es) ≡ Ok (code_and_scope s o)
+scoped_read es s d o h parts scope = scoped_whole es h ∙ ap (λ r. r >>= read_beside) parts ∙ ap (λ r. r >>= λ p. Ok (code_and_scope s p)) scope
+
+-- an object with one member
+pub alone_read : (es more : List Entry) (k : String Global) (v : json.Value) → length es < 2 → es ≡ (k, v) ∷ more → read_typed (members_view es) ≡ read_wrapped (reserved_of (string_bytes k)) (data_of v)
+alone_read es [] k v h is = ap (λ fs. read_typed (members_view fs)) is
+alone_read es (m ∷ more) k v h is = absurd (omega (arith, h, ap length is))

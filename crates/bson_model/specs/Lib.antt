@@ -14,5 +14,6 @@ pub mod JsonWrite
 pub mod Display
 pub mod JsonTexts
 pub mod JsonRead
+pub mod JsonScoped
 pub mod JsonGrammar
 pub mod JsonWrappers

@@ -37,6 +37,7 @@ use bson_model::{Bson, Sink};
 use serde_json::Value;
 use sqlite::{Alter, Connection};
 use std::alloc::Global;
+use std::mem;
 use store_documents::{
     ID_KEY, KeptRow, Name, body_with, body_without, json_of_body, key_of_id, row_of_bytes,
     row_of_json, value_of_json,
@@ -358,6 +359,31 @@ impl<S: Alter + Drop> Store<S> {
             (on name.now (set (view id.now) key.now (Some (view value))))
             (reply_by as_done result) }
     {
+        let mut value = value;
+        let done = self.set_taken(name, id, key, &mut value);
+        drop(value);
+        done
+    }
+
+    /// Puts a value under a top key, as `set_value` does. It is taken from where it lies once the document is found, so
+    /// that a refusal before that leaves it there.
+    fn set_taken(
+        &mut self,
+        name: &str,
+        id: &Bson,
+        key: &str,
+        value: &mut Bson,
+    ) -> Result<(), StoreError>
+        ensures moves { Relates S.Store self.old self.new
+            (Does (on name.now (set (view id.now) key.now (Some (view value.old))))
+            (reply_by as_done result)) }
+        ensures open { WasOpen (store_state S.Store self.old)
+            (store_state S.Store self.new) result }
+        ensures indexes { MayDropIndexes self.old self.new }
+        ensures crash { Leaves (store_state S.Store self.old) (store_state S.Store self.new)
+            (on name.now (set (view id.now) key.now (Some (view value.old))))
+            (reply_by as_done result) }
+    {
         let name = good_name(name)?;
         if !is_free(key) {
             return Err(StoreError::from(ErrorKind::BadKey));
@@ -366,6 +392,7 @@ impl<S: Alter + Drop> Store<S> {
             return Err(StoreError::from(ErrorKind::NotFound));
         };
         let old = found.body.as_slice();
+        let value = mem::replace(value, Bson::Null);
         let body = body_with(self.alloc, old, key, value)?;
         let body = body.as_slice();
         match self.put_back(&found, body) {

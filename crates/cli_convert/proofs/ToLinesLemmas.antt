@@ -1,11 +1,12 @@
 -- Documents that become lines, one after the other.
-use Rattle.std.proofs.Common.{◌≡◌, ℕ, ◌+◌, ◌-◌, ◌<◌, ◌≤◌, ◌^◌, List, [], ◌∷◌, ◌++◌, length, true, false, drop, Ok, Err, refl, sym, ap, subst, ◌∙◌}
+use Rattle.std.proofs.Common.{◌≡◌, ℕ, ◌+◌, ◌-◌, ◌<◌, ◌^◌, List, [], ◌∷◌, ◌++◌, length, true, false, drop, Ok, Err, refl, sym, ap, subst, ◌∙◌}
 use Rattle.std.proofs.lemmas.List.{length-append}
 use Rattle.bson_base.specs.Device.{Feed, Tally, Took, CanFail, CanRefuse}
-use Rattle.bson_base.specs.Value.{Members, document, levels}
-use Rattle.bson_bytes.specs.Spells.{SpellsMembers, settle}
+use Rattle.bson_base.specs.Value.{Members, document}
+use Rattle.bson_bytes.specs.Spells.{SpellsMembers}
 use Rattle.bson_frame.specs.Payload.{IsEnvelope}
 use Rattle.bson_json.specs.Prints.{IsTextOf}
+use Rattle.bson_json.specs.Settling.{SpellsSettled}
 use Rattle.bson_meaning.specs.JsonReserved.{has_reserved}
 use Rattle.bson_model.specs.declared.extjson.ser.Mode.{Mode}
 use Rattle.bson_raw.specs.Input.{AreDeclared}
@@ -38,12 +39,12 @@ module _ (m : Mode) (n : ℕ) (old new : Feed) (before : Tally) (bytes : List �
   line_unsent line after stop.Writer (d, means, free, is) (failed, begun) = (bytes, line, d, took, ((declares, means), free), is, failed, begun)
   line_unsent line after stop.Memory h sends = absurd sends
 
--- bytes that are the written form of what they mean, and their text
-pub straight : (m : Mode) (bytes text : List ℕ) → IsEnvelope bytes → ((ms : Members) → SpellsMembers (drop 4 bytes) ms → settle ms ≡ ms) → ((ms : Members) × SpellsMembers (drop 4 bytes) ms × (levels (document ms) ≤ 100))
+-- bytes that spell a document of which nothing is to be settled, and its text
+pub straight : (m : Mode) (bytes text : List ℕ) → IsEnvelope bytes → SpellsSettled (drop 4 bytes)
     → ((ms : Members) → SpellsMembers (drop 4 bytes) ms → (has_reserved ms ≡ false) × IsTextOf m (document ms) text) → IsFreeText m bytes text
-straight m bytes text whole settled (ms, spells, low) written =
+straight m bytes text whole (ms, spells, settled) written =
     let (free, is) = written ms spells in
-    (ms, (ms, whole, spells, sym (settled ms spells)), free, is)
+    (ms, (ms, whole, spells, sym settled), free, is)
 
 -- the text with a line feed is a line
 pub line_of : (m : Mode) (bytes text line : List ℕ) → IsFreeText m bytes text → line ≡ text ++ 10 ∷ [] → IsFreeLine m bytes line

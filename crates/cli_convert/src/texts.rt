@@ -10,7 +10,7 @@ ghost use Rattle.cli_convert.specs.declared.stop.Stop.TheVariants.{Memory};
 use crate::stop::{Fault, Stop};
 use bson_bytes::is_written_form;
 use bson_frame::is_envelope;
-use bson_json::{Style, Unwritten, write_raw};
+use bson_json::{Style, Unwritten, write_settled};
 use bson_meaning::reserved_path_below;
 use bson_model::Document;
 use bson_model::extjson::Mode;
@@ -18,17 +18,17 @@ use bson_raw::{Error, ErrorKind, RawDocument};
 use std::alloc::Global;
 
 /// Replaces what `text` held by the text of a document, straight from its bytes, and returns whether there is one: it
-/// may be false for every document that isn't written as it means, and for one without a text. Then `text` may hold
-/// anything.
+/// may be false for a document with a key that occurs twice, and for one without a text. Then `text` may hold anything.
 fn write_straight(alloc: Global, mode: Mode, bytes: &[u8], text: &mut String) -> Result<bool, Stop>
     ensures { MatchResult result (λ b. IsTrue b → IsFreeText mode bytes.now (string_bytes text.new))
         (λ e. e ≡ Memory) }
 {
-    if !is_envelope(bytes) || !is_written_form(bytes) {
+    if !is_envelope(bytes) {
         return Ok(false);
     }
-    match write_raw(alloc, bytes, Style::Full(mode), text) {
-        Ok(()) => Ok(true),
+    match write_settled(alloc, bytes, Style::Full(mode), text) {
+        Ok(true) => Ok(true),
+        Ok(false) => Ok(is_written_form(bytes)),
         Err(Unwritten::Unseen) => Ok(false),
         Err(Unwritten::Memory) => Err(Stop::Memory),
     }

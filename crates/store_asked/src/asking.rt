@@ -50,7 +50,10 @@ pub fn take_answers<S: Alter + Drop, T: Take + Drop>(
         question,
         taker,
     };
-    let taken = store.take_passing(name, &front, answering)?;
+    let outcome = store.take_passing(name, &front, answering);
+    drop(ranges);
+    drop(filter);
+    let taken = outcome?;
     Ok(taken.taker)
 }
 

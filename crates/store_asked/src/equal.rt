@@ -34,10 +34,16 @@ pub(crate) fn everything(alloc: Global) -> Filter
 pub(crate) fn either(alloc: Global, first: Filter, second: Filter) -> Result<Filter, AllocError>
     ensures { IfOk result (λ f. filter_of f ≡ Either (filter_of first) (filter_of second)) }
 {
-    let mut filters = Vec::new(alloc);
-    filters.push(first)?;
-    filters.push(second)?;
+    let filters = Vec::from_array(alloc, [first, second])?;
     Ok(Filter::Or(filters))
+}
+
+/// The error, for which a filter is let go.
+fn given_up(filter: Filter, error: AllocError) -> AllocError
+    ensures { result ≡ error }
+{
+    drop(filter);
+    error
 }
 
 /// A copy of a path for a filter or a range to own. The error is a refused growth.
@@ -69,8 +75,13 @@ fn same(alloc: Global, path: &[String], value: Bson) -> Result<Filter, AllocErro
     ensures sound { IsSound (view value) }
 {
     soundness(&value);
-    let path = copied(alloc, path)?;
-    Ok(Filter::Eq(path, value))
+    match copied(alloc, path) {
+        Ok(path) => Ok(Filter::Eq(path, value)),
+        Err(error) => {
+            drop(value);
+            Err(error)
+        }
+    }
 }
 
 /// The path leads to a value of exactly this element type. The error is a refused growth.
@@ -133,9 +144,12 @@ pub(crate) fn compared(
 fn texts(alloc: Global, path: &[String], text: &str) -> Result<Filter, AllocError>
     ensures { IfOk result (λ f. filter_of f ≡ texts_at (path_of path.now) text.now) }
 {
+    let symbol = String::from_str(alloc, text)?;
     let plain = same(alloc, path, Bson::String(String::from_str(alloc, text)?))?;
-    let symbol = same(alloc, path, Bson::Symbol(String::from_str(alloc, text)?))?;
-    either(alloc, plain, symbol)
+    match same(alloc, path, Bson::Symbol(symbol)) {
+        Ok(symbol) => either(alloc, plain, symbol),
+        Err(error) => Err(given_up(plain, error)),
+    }
 }
 
 /// The filter doesn't select the document. The error is a refused growth.
@@ -150,9 +164,11 @@ fn not(alloc: Global, filter: Filter) -> Result<Filter, AllocError>
 fn nothing(alloc: Global, path: &[String]) -> Result<Filter, AllocError>
     ensures { IfOk result (λ f. filter_of f ≡ nothing_at (path_of path.now)) }
 {
-    let null = same(alloc, path, Bson::Null)?;
     let absent = not(alloc, there(alloc, path)?)?;
-    either(alloc, null, absent)
+    match same(alloc, path, Bson::Null) {
+        Ok(null) => either(alloc, null, absent),
+        Err(error) => Err(given_up(absent, error)),
+    }
 }
 
 /// A whole number as an integer, of each kind that has room for it.
@@ -162,8 +178,10 @@ fn integers(alloc: Global, path: &[String], whole: i64) -> Result<Filter, AllocE
     match i32::try_from(whole) {
         Ok(small) => {
             let short = same(alloc, path, Bson::Int32(small))?;
-            let long = same(alloc, path, Bson::Int64(whole))?;
-            either(alloc, short, long)
+            match same(alloc, path, Bson::Int64(whole)) {
+                Ok(long) => either(alloc, short, long),
+                Err(error) => Err(given_up(short, error)),
+            }
         }
         Err(_) => same(alloc, path, Bson::Int64(whole)),
     }
@@ -180,6 +198,18 @@ fn as_double(alloc: Global, path: &[String], whole: i64) -> Result<Filter, Alloc
     }
 }
 
+/// A whole number as a double, if it is one, or as a decimal.
+fn as_fraction(alloc: Global, path: &[String], whole: i64) -> Result<Filter, AllocError>
+    ensures { IfOk result (λ f. (o : Maybe ℕ) × IsDoubleAt whole o
+        × (filter_of f ≡ Either (double_at (path_of path.now) o) (is_of (path_of path.now) ElementType.Decimal128))) }
+{
+    let double = as_double(alloc, path, whole)?;
+    match of_kind(alloc, path, ElementType::Decimal128) {
+        Ok(decimals) => either(alloc, double, decimals),
+        Err(error) => Err(given_up(double, error)),
+    }
+}
+
 /// A whole number, in each kind that can hold it.
 fn wholes(alloc: Global, path: &[String], whole: i64) -> Result<Filter, AllocError>
     ensures reached { IfOk result (λ f. (w : Value) → whole_of w ≡ Some whole
@@ -187,9 +217,10 @@ fn wholes(alloc: Global, path: &[String], whole: i64) -> Result<Filter, AllocErr
     ensures fits { FitsSigned w64 whole }
 {
     let integers = integers(alloc, path, whole)?;
-    let double = as_double(alloc, path, whole)?;
-    let decimals = of_kind(alloc, path, ElementType::Decimal128)?;
-    either(alloc, integers, either(alloc, double, decimals)?)
+    match as_fraction(alloc, path, whole) {
+        Ok(others) => either(alloc, integers, others),
+        Err(error) => Err(given_up(integers, error)),
+    }
 }
 
 /// A double that is no whole number of 64 bits; NaN is equal to NaN of either sign and of a decimal.
@@ -201,8 +232,10 @@ fn fractions(alloc: Global, path: &[String], double: DoubleBits) -> Result<Filte
         return Ok(everything(alloc));
     }
     let nearest = same(alloc, path, Bson::Double(double))?;
-    let decimals = of_kind(alloc, path, ElementType::Decimal128)?;
-    either(alloc, nearest, decimals)
+    match of_kind(alloc, path, ElementType::Decimal128) {
+        Ok(decimals) => either(alloc, nearest, decimals),
+        Err(error) => Err(given_up(nearest, error)),
+    }
 }
 
 /// The value at the path is equal to this double, in each kind that can hold it. The error is a refused growth.

@@ -116,7 +116,9 @@ fn take_near<'a, S: Alter + Drop>(
         question,
         taker: first,
     };
-    let taken = store.take_passing(name, &front, answering)?;
+    let outcome = store.take_passing(name, &front, answering);
+    drop(everything);
+    let taken = outcome?;
     Ok(taken.taker)
 }
 

@@ -1,10 +1,11 @@
 //! Extended JSON v2 as it is read (MongoDB Extended JSON v2, "Parsing").
-ghost use Rattle.std.specs.Prelude.{◌≡◌, map, string_bytes};
+ghost use Rattle.std.specs.Prelude.{◌≡◌, ◌<◌, length, map, string_bytes};
 ghost use Rattle.std.specs.Option.{option_map};
 ghost use Rattle.serde_json.specs.View.{view as data_of, number_view, items_view, members_view};
 ghost use Rattle.bson_model.specs.View.{view, items_of, content};
 ghost use Rattle.bson_model.specs.JsonKeys.{any_reserved};
 ghost use Rattle.bson_model.specs.JsonRead.{GivesReading, read as value_of, read_items as items_read, read_members as members_read, read_typed as typed_of, read_scope as scope_of, text_of as spec_text, whole, code_and_scope as spec_scoped, integer as integer_of};
+ghost use Rattle.bson_model.specs.JsonScoped.{scoped_parts as parts_of};
 ghost use Rattle.serde_json.specs.Find.{as_i64};
 
 mod bodies;
@@ -14,7 +15,7 @@ mod texts;
 use crate::bson::{Bson, JavaScriptCodeWithScope};
 use crate::document::Document;
 use crate::levels::{STACK_LEVELS, levels_inside};
-use bodies::{read_wrapped, text_of};
+use bodies::{pair, read_wrapped, text_of};
 use bson_base::oid;
 pub use keys::{Wrapper, is_reserved_key, wrapper_of};
 use serde_json::{Map, Number, Value};
@@ -123,6 +124,42 @@ pub fn with_scope(code: String, scope: Option<Document>) -> Bson
     }
 }
 
+/// The value of an object with one member at the most. `DeserializationError` if it has none, or if its key isn't a
+/// reserved one, else the error of its body.
+// What it keeps on the stack stays out of the frames of `read`, which calls itself for each level.
+#[inline(never)]
+fn read_alone(alloc: Global, members: Map<String, Value>) -> Result<Bson>
+    requires { length members.entries < 2 }
+    ensures { GivesReading view result (typed_of (members_view members.entries)) }
+{
+    match members.into_iter().next() {
+        Some((key, value)) => read_wrapped(alloc, &key, value),
+        None => Err(Error::DeserializationError),
+    }
+}
+
+/// The code and the scope of an object with these two keys alone. `DeserializationError` if it has other keys, or if
+/// the code is no text.
+// What it keeps on the stack stays out of the frames of `read`, too.
+#[inline(never)]
+fn scoped_parts(members: Map<String, Value>) -> Result<(String, Value)>
+    ensures { GivesReading (λ p. (string_bytes p.0, data_of p.1)) result (parts_of (members_view members.entries)) }
+{
+    let (code, scope) = pair(members, "$code", "$scope")?;
+    match text_of(code) {
+        Ok(code) => Ok((code, scope)),
+        Err(error) => Err(given_up(scope, error)),
+    }
+}
+
+/// The error, for which the tree is let go.
+fn given_up(tree: Value, error: Error) -> Error
+    ensures { result ≡ error }
+{
+    drop(tree);
+    error
+}
+
 /// The value of a JSON tree, which may have `levels` levels.
 #[cycle(read)]
 fn read(alloc: Global, value: Value, levels: u32) -> Result<Bson>
@@ -178,22 +215,11 @@ fn read_members(alloc: Global, members: Map<String, Value>, levels: u32) -> Resu
 fn read_typed(alloc: Global, members: Map<String, Value>, levels: u32) -> Result<Bson>
     ensures { GivesReading view result (typed_of (members_view members.entries)) }
 {
-    let mut entries = members.into_iter();
-    let Some((key, value)) = entries.next() else {
-        return Err(Error::DeserializationError);
-    };
-    let Some((second, scope)) = entries.next() else {
-        return read_wrapped(alloc, &key, value);
-    };
-    if entries.next().is_some() {
-        return Err(Error::DeserializationError);
+    if members.len() < 2 {
+        return read_alone(alloc, members);
     }
-    if key.as_str() == "$code" && second.as_str() == "$scope" {
-        let code = text_of(value)?;
-        Ok(with_scope(code, read_scope(alloc, scope, levels)?))
-    } else {
-        Err(Error::DeserializationError)
-    }
+    let (code, scope) = scoped_parts(members)?;
+    Ok(with_scope(code, read_scope(alloc, scope, levels)?))
 }
 
 /// The scope beside a `$code`, none if it is null. `DeserializationError` if it is neither null nor an object; `Memory`

@@ -1,7 +1,8 @@
-use Rattle.std.proofs.Common.{◌≡◌, ◌+◌, ◌*◌, Some, drop}
+use Rattle.std.proofs.Common.{◌≡◌, ◌+◌, ◌*◌, IsTrue, Some, drop}
 use Rattle.json.specs.Written.{Written}
 use Rattle.bson_raw.specs.View.{array_bytes, bytes_of, left_of}
 use Rattle.bson_json.specs.declared.style.Style.TheVariants.{Full}
+use Rattle.bson_json.proofs.SettlingLemmas.{SettledItemsSoFar, SettledSoFar}
 use Rattle.bson_json.proofs.StepLemmas.{ItemsEnd, MembersEnd, PairsEnd}
 use Rattle.bson_json.proofs.StraightLemmas.{ItemsSoFar, MembersSoFar}
 use Rattle.bson_json.proofs.document.+print.Given as goal
@@ -36,6 +37,7 @@ invariant-print_in_turn-loop-item l =
     × (goal.iterator-print_in_turn-loop-item).can_next l.item-iterator
     × (goal.iterator-print_in_turn-loop-item).is_finite l.item-iterator
     × MembersSoFar (Full l.mode) l.keys (drop 4 (bytes_of l.document)) (left_of l.item-iterator)
+    × (IsTrue l.is_settled → SettledSoFar (drop 4 (bytes_of l.document)) (left_of l.item-iterator) l.fn.met.items l.met.items)
 
 abbrev pub invariant-print_items-loop-item : goal.invariant-print_items-loop-item
 invariant-print_items-loop-item l =
@@ -44,3 +46,4 @@ invariant-print_items-loop-item l =
     × (goal.iterator-print_items-loop-item).can_next l.item-iterator
     × (goal.iterator-print_items-loop-item).is_finite l.item-iterator
     × ItemsSoFar l.style (drop 4 (array_bytes l.array)) (left_of l.item-iterator)
+    × (IsTrue l.is_settled → SettledItemsSoFar (drop 4 (array_bytes l.array)) (left_of l.item-iterator) l.fn.met.items l.met.items)

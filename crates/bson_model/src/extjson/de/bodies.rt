@@ -62,7 +62,7 @@ fn under(value: Value, key: &str) -> Result<Value>
 
 /// The bodies of an object with these two keys alone, the first one below the second; `DeserializationError` if it has
 /// other keys.
-fn pair(members: Map<String, Value>, first: &str, second: &str) -> Result<(Value, Value)>
+pub(super) fn pair(members: Map<String, Value>, first: &str, second: &str) -> Result<(Value, Value)>
     ensures { GivesReading (λ p. (data_of p.0, data_of p.1)) result (bodies_in first.now second.now (members_view members.entries)) }
 {
     let mut entries = members.into_iter();

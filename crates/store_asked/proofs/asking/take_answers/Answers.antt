@@ -13,10 +13,10 @@ returns-in_err-taken-clause-moves g c =
     let p = err_from_is_err_and c.from_residual.result c.from_residual.ensures.1 in
     let first : Answering g.row.T.Denot = record { alloc = c.args.alloc; question = c.args.question; taker = c.args.taker } in
     let holds = passes_front (form_of c.args.question.now) (filter_of c.filter_in_front-filter.result) c.ranges_in_front-ranges.result.items c.as_slice.result.now c.as_slice.ensures.value c.filter_in_front-filter.ensures c.ranges_in_front-ranges.ensures in
-    rw (p.1, p.2) (moved (store_state g.S.Store c.args.store.now) (store_state g.S.Store c.take_passing.new.self) _ _ c.in_err-taken.ensures.moves (λ docs after h. none_passed g.T.Take.took first _ holds c.args.name.now docs after c.in_err-taken.field-0.0 h))
+    rw (p.1, p.2) (moved (store_state g.S.Store c.args.store.now) (store_state g.S.Store c.take_passing-outcome.new.self) _ _ c.in_err-taken.ensures.moves (λ docs after h. none_passed g.T.Take.took first _ holds c.args.name.now docs after c.in_err-taken.field-0.0 h))
 
 pub returns-clause-moves : goal.returns-clause-moves
 returns-clause-moves g c =
     let first : Answering g.row.T.Denot = record { alloc = c.args.alloc; question = c.args.question; taker = c.args.taker } in
     let holds = passes_front (form_of c.args.question.now) (filter_of c.filter_in_front-filter.result) c.ranges_in_front-ranges.result.items c.as_slice.result.now c.as_slice.ensures.value c.filter_in_front-filter.ensures c.ranges_in_front-ranges.ensures in
-    moved (store_state g.S.Store c.args.store.now) (store_state g.S.Store c.take_passing.new.self) _ _ c.in_ok-taken.ensures.moves (λ docs after h. all_passed g.T.Take.took first _ holds c.args.name.now docs after c.in_ok-taken.taken h)
+    moved (store_state g.S.Store c.args.store.now) (store_state g.S.Store c.take_passing-outcome.new.self) _ _ c.in_ok-taken.ensures.moves (λ docs after h. all_passed g.T.Take.took first _ holds c.args.name.now docs after c.in_ok-taken.taken h)

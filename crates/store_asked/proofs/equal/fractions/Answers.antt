@@ -13,11 +13,11 @@ use Rattle.store_asked.proofs.equal.fractions.Goals as goal
 pub returns-then-is_nan : goal.returns-then-is_nan
 returns-then-is_nan c = λ none. all_meet (path_of c.args.path.now) (lies Equal (scalar (double c.args.double.0))) (filter_of c.everything.result) c.everything.ensures
 
-pub returns : goal.returns
-returns c =
+pub returns-in-Ok : goal.returns-in-Ok
+returns-in-Ok c =
     let path = path_of c.args.path.now in
     let d = c.args.double in
     let nearest = filter_of c.in_ok-nearest.nearest in
-    let decimals = filter_of c.in_ok-decimals.decimals in
+    let decimals = filter_of c.in-Ok.decimals in
     weaker (λ (f : Filter). filter_of f ≡ either nearest decimals) (λ (f : Filter). whole_of (scalar (double d.0)) ≡ None → Reaches path (scalar (double d.0)) (filter_of f)) c.either.result
-    (λ f is. fraction_reached path d nearest decimals (filter_of f) c.in_ok-nearest.ensures.sound (sym c.is_nan.ensures ∙ c.if-is_nan.false) c.in_ok-nearest.ensures.told c.in_ok-decimals.ensures is) c.either.ensures
+    (λ f is. fraction_reached path d nearest decimals (filter_of f) c.in_ok-nearest.ensures.sound (sym c.is_nan.ensures ∙ c.if-is_nan.false) c.in_ok-nearest.ensures.told c.in-Ok.ensures is) c.either.ensures

@@ -1,8 +1,8 @@
-use Rattle.std.proofs.Common.{◌≡◌, [], Ok, ap, rules, string_bytes, option_map, subst, sym, ◌∙◌}
+use Rattle.std.proofs.Common.{Ok, ap, arith, string_bytes, option_map, subst, sym, ◌∙◌}
 use Rattle.std.proofs.lemmas.List.{nil_from_length}
 use Rattle.serde_json.specs.View.{view as data_of}
 use Rattle.bson_model.specs.View.{view, pairs_of, members_of}
-use Rattle.bson_model.proofs.JsonReadLemmas.{Gives-err, Fails-along, none_left, typed_two, after_text, after_text_fails, items_step, items_end, SoFar, members_begin, members_step, members_end}
+use Rattle.bson_model.proofs.JsonReadLemmas.{Gives-err, parts_fail, scope_fails, scoped_read, items_step, items_end, SoFar, members_begin, members_step, members_end}
 use Rattle.bson_model.proofs.extjson.de.+read.Goals as goal
 
 pub read_items-loop-item-preserved : goal.read_items-loop-item-preserved
@@ -24,15 +24,18 @@ read_members-loop-key-preserved t c =
 pub read_members-returns : goal.read_members-returns
 read_members-returns t c = members_end _ _ _ c.loop-key.invariant c.in-None.ensures.steps.0
 
+pub read_typed-returns-in_err-code : goal.read_typed-returns-in_err-code
+read_typed-returns-in_err-code t c =
+    let e = c.in_err-code.field-0.0 in
+    Gives-err view c.from_residual.result e _ c.from_residual.ensures.1 (parts_fail e c.args.members.entries (omega arith) c.in_err-code.ensures)
+
 pub read_typed-returns-in_err-read_scope : goal.read_typed-returns-in_err-read_scope
 read_typed-returns-in_err-read_scope t c =
-    let third : c.next-2.new.self ≡ [] = none_left c.next-3.result _ _ _ (sym c.is_some.ensures ∙ c.if-is_some.false) c.next-3.ensures.steps in
-    let whole = typed_two _ _ _ c.in-Some.key c.in-Some-next.second c.in-Some.value c.in-Some-next.scope (sym c.into_iter-entries.ensures.into_iter_gives.0 ∙ c.in-Some.ensures.steps) c.in-Some-next.ensures.steps third (search rules) (search rules) in
-    let fails = after_text_fails c.in_err-read_scope.field-0.0 (string_bytes c.in_ok-code.code) (data_of c.in-Some.value) (data_of c.in-Some-next.scope) c.in_ok-code.ensures c.in_err-read_scope.ensures in
-    Gives-err view c.from_residual-in_err-read_scope.result c.in_err-read_scope.field-0.0 _ c.from_residual-in_err-read_scope.ensures.1 (Fails-along _ _ _ whole fails)
+    let e = c.in_err-read_scope.field-0.0 in
+    Gives-err view c.from_residual-in_err-read_scope.result e _ c.from_residual-in_err-read_scope.ensures.1
+    (scope_fails e c.args.members.entries (string_bytes c.in_ok-code.code) (data_of c.in_ok-code.scope) (omega arith) c.in_ok-code.ensures c.in_err-read_scope.ensures)
 
-pub read_typed-returns-then-eq-2 : goal.read_typed-returns-then-eq-2
-read_typed-returns-then-eq-2 t c =
-    let third : c.next-2.new.self ≡ [] = none_left c.next-3.result _ _ _ (sym c.is_some.ensures ∙ c.if-is_some.false) c.next-3.ensures.steps in
-    let whole = typed_two _ _ _ c.in-Some.key c.in-Some-next.second c.in-Some.value c.in-Some-next.scope (sym c.into_iter-entries.ensures.into_iter_gives.0 ∙ c.in-Some.ensures.steps) c.in-Some-next.ensures.steps third (search rules) (search rules) in
-    whole ∙ after_text (string_bytes c.in_ok-code.code) (data_of c.in-Some.value) (data_of c.in-Some-next.scope) (option_map (λ d. members_of (pairs_of d)) c.in_ok-read_scope.field-0) c.in_ok-code.ensures c.in_ok-read_scope.ensures ∙ ap Ok (sym c.with_scope.ensures)
+pub read_typed-returns : goal.read_typed-returns
+read_typed-returns t c =
+    scoped_read c.args.members.entries (string_bytes c.in_ok-code.code) (data_of c.in_ok-code.scope) (option_map (λ d. members_of (pairs_of d)) c.in_ok-read_scope.field-0) (omega arith) c.in_ok-code.ensures c.in_ok-read_scope.ensures
+    ∙ ap Ok (sym c.with_scope.ensures)

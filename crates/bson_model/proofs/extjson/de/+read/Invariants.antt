@@ -1,10 +1,26 @@
-use Rattle.std.proofs.Common.{◌≡◌}
+use Rattle.std.proofs.Common.{◌≡◌, ◌+◌, ◌*◌}
 use Rattle.std.specs.Vec.Iter.{into_iter_items}
 use Rattle.serde_json.specs.View.{items_view}
 use Rattle.bson_model.specs.JsonRead.{read_items}
 use Rattle.bson_model.specs.View.{pairs_of}
 use Rattle.bson_model.proofs.JsonReadLemmas.{values_view, after_items, SoFar}
 use Rattle.bson_model.proofs.extjson.de.+read.Given as goal
+
+-- by the levels that are left
+abbrev pub decreases-read : goal.decreases-read
+decreases-read l = 4 * l.levels + 3
+
+abbrev pub decreases-read_items : goal.decreases-read_items
+decreases-read_items l = 4 * l.levels + 4
+
+abbrev pub decreases-read_members : goal.decreases-read_members
+decreases-read_members l = 4 * l.levels + 4
+
+abbrev pub decreases-read_typed : goal.decreases-read_typed
+decreases-read_typed l = 4 * l.levels + 2
+
+abbrev pub decreases-read_scope : goal.decreases-read_scope
+decreases-read_scope l = 4 * l.levels + 1
 
 abbrev pub invariant-read_items-loop-item : goal.invariant-read_items-loop-item
 invariant-read_items-loop-item l =

@@ -2,6 +2,7 @@ use Rattle.std.proofs.Common.{◌≡◌, ◌∙◌, ◌++◌, ◌∷◌, [], ℕ
 use Rattle.std.specs.Bool.{⊤}
 use Rattle.std.specs.declared.alloc.Global.{Global}
 use Rattle.std.proofs.lemmas.List.{map-append}
+use Rattle.sqlite_btree.proofs.Results.{steps_on}
 use Rattle.sqlite_pages.specs.PageMap.{PageMap}
 use Rattle.sqlite_value.specs.declared.value.Value.TheVariants.{Null, Text}
 use Rattle.store_table.specs.Documents.{AreDocuments}
@@ -32,7 +33,7 @@ names-preserved g c =
     let m = c.names.invariant.met in
     let name = c.in-Some.name in
     record {
-      kept = search rules;
+      kept = steps_on g.met.P.Pages.follows_trans c.names.invariant.kept c.next_name.ensures.kept;
       pages = c.next_name.ensures.pages ∙ c.names.invariant.pages;
       met = (
         Text name.items,
@@ -46,3 +47,9 @@ names-preserved g c =
             subst (λ ns. AreUpTo (Text name.items) ns docs) (sym all) on,
       );
     }
+
+pub returns-in-None-clause-kept : goal.returns-in-None-clause-kept
+returns-in-None-clause-kept g c = steps_on g.met.P.Pages.follows_trans c.names.invariant.kept c.next_name.ensures.kept
+
+pub returns-in-None-clause-pages : goal.returns-in-None-clause-pages
+returns-in-None-clause-pages g c = c.next_name.ensures.pages ∙ c.names.invariant.pages

@@ -1,5 +1,6 @@
-use Rattle.std.proofs.Common.{◌≡◌, ℕ, ℤ, pos, ◌+ℤ◌, true, false, Bool, w64, to_z, of_z, sym, subst, subst₂, arith, rules}
+use Rattle.std.proofs.Common.{◌≡◌, ◌∙◌, ℕ, ℤ, pos, ◌+ℤ◌, true, false, Bool, w64, to_z, of_z, sym, subst, subst₂, arith, rules}
 use Rattle.sqlite_pages.specs.Calls.{IsClean}
+use Rattle.sqlite_btree.proofs.Results.{steps_on}
 use Rattle.sqlite_btree.specs.Batch.{taken}
 use Rattle.sqlite_btree.specs.Cut.{from_cut}
 use Rattle.sqlite_btree.specs.Stored.{IsLaidIn, IsTable, as_row, by_rowid}
@@ -32,3 +33,39 @@ returns-clause-found g c clean layout rows laid its =
       names_table = one.1;
       names_index = two.1;
     }
+
+pub returns-in_err-index-clause-kept : goal.returns-in_err-index-clause-kept
+returns-in_err-index-clause-kept g c = steps_on g.met.P.Pages.follows_trans c.next_table.ensures.kept c.next_index.ensures.kept
+
+pub returns-in_err-index-clause-pages : goal.returns-in_err-index-clause-pages
+returns-in_err-index-clause-pages g c = c.next_index.ensures.pages ∙ c.next_table.ensures.pages
+
+pub returns-in_default-2-clause-kept : goal.returns-in_default-2-clause-kept
+returns-in_default-2-clause-kept g c = steps_on g.met.P.Pages.follows_trans c.next_table.ensures.kept c.next_index.ensures.kept
+
+pub returns-in_default-2-clause-pages : goal.returns-in_default-2-clause-pages
+returns-in_default-2-clause-pages g c = c.next_index.ensures.pages ∙ c.next_table.ensures.pages
+
+pub returns-in_default-checked_add-2-clause-kept : goal.returns-in_default-checked_add-2-clause-kept
+returns-in_default-checked_add-2-clause-kept g c = steps_on g.met.P.Pages.follows_trans c.next_table.ensures.kept c.next_index.ensures.kept
+
+pub returns-in_default-checked_add-2-clause-pages : goal.returns-in_default-checked_add-2-clause-pages
+returns-in_default-checked_add-2-clause-pages g c = c.next_index.ensures.pages ∙ c.next_table.ensures.pages
+
+pub returns-in_err-first_row-clause-kept : goal.returns-in_err-first_row-clause-kept
+returns-in_err-first_row-clause-kept g c = steps_on g.met.P.Pages.follows_trans (steps_on g.met.P.Pages.follows_trans c.next_table.ensures.kept c.next_index.ensures.kept) c.first_row.ensures.kept
+
+pub returns-in_err-first_row-clause-pages : goal.returns-in_err-first_row-clause-pages
+returns-in_err-first_row-clause-pages g c = c.first_row.ensures.pages ∙ c.next_index.ensures.pages ∙ c.next_table.ensures.pages
+
+pub returns-then-branch-clause-kept : goal.returns-then-branch-clause-kept
+returns-then-branch-clause-kept g c = steps_on g.met.P.Pages.follows_trans (steps_on g.met.P.Pages.follows_trans c.next_table.ensures.kept c.next_index.ensures.kept) c.first_row.ensures.kept
+
+pub returns-then-branch-clause-pages : goal.returns-then-branch-clause-pages
+returns-then-branch-clause-pages g c = c.first_row.ensures.pages ∙ c.next_index.ensures.pages ∙ c.next_table.ensures.pages
+
+pub returns-clause-kept : goal.returns-clause-kept
+returns-clause-kept g c = steps_on g.met.P.Pages.follows_trans (steps_on g.met.P.Pages.follows_trans c.next_table.ensures.kept c.next_index.ensures.kept) c.first_row.ensures.kept
+
+pub returns-clause-pages : goal.returns-clause-pages
+returns-clause-pages g c = c.first_row.ensures.pages ∙ c.next_index.ensures.pages ∙ c.next_table.ensures.pages

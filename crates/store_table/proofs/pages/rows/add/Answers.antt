@@ -1,4 +1,5 @@
 use Rattle.std.proofs.Common.{◌≡◌, ℕ, ℤ, List, Ok, w64, to_z, of_z, subst, subst₂, arith, rules}
+use Rattle.sqlite_btree.proofs.Results.{steps_on}
 use Rattle.sqlite_value.specs.Order.{Row}
 use Rattle.sqlite_pages.specs.Calls.{IsClean}
 use Rattle.store_table.specs.Documents.{entry}
@@ -20,3 +21,6 @@ returns-clause-done g c clean first version docs s below none =
     let same : c.in_ok-entry.entry ≡ entry c.args.coll.now c.args.idkey.now c.args.place = search rules in
     adds first size before version c.args.roots.table c.args.roots.index docs s mid after d c.in_ok-bytes.bytes.items c.add_entry.result c.in_ok-bytes.ensures.reads put
     (subst (λ (e : Row). AddsEntry size mid after c.args.roots.index e c.add_entry.result) same add) below none
+
+pub returns-clause-kept : goal.returns-clause-kept
+returns-clause-kept g c = steps_on g.met.P.Pages.follows_trans c.put_row.ensures.kept c.add_entry.ensures.kept

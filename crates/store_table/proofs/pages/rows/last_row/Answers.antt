@@ -1,4 +1,5 @@
 use Rattle.std.proofs.Common.{◌≡◌, ℕ, suc, true, false, w64, to_z, of_z, sym, subst, ◌∙◌, arith, rules}
+use Rattle.sqlite_btree.proofs.Results.{steps_on}
 use Rattle.sqlite_pages.specs.Calls.{IsClean}
 use Rattle.sqlite_btree.specs.Batch.{IsBatchOf}
 use Rattle.sqlite_btree.specs.Stored.{IsLaidIn, IsTable}
@@ -35,3 +36,21 @@ returns-clause-found g c clean first version docs s =
     let is_yes : c.in_ok-some.some ≡ true = search rules in
     let place : to_z w64 (of_z w64 c.rowid.result) ≡ c.rowid.result = search rules in
     place ∙ c.rowid.ensures ∙ sym (last_found c.in_ok-some.some docs its.rows layout _ _ pages _ c.fill_back.new.batch c.next_back.new.self (all_fit table) (sym (store.are_rows first size pages version c.args.roots.table c.args.roots.index docs s) ∙ its.shows) c.fill_back.ensures.pages filled took is_yes)
+
+pub returns-in_err-some-clause-kept : goal.returns-in_err-some-clause-kept
+returns-in_err-some-clause-kept g c = steps_on g.met.P.Pages.follows_trans c.fill_back.ensures.kept c.next_back.ensures.kept
+
+pub returns-in_err-some-clause-pages : goal.returns-in_err-some-clause-pages
+returns-in_err-some-clause-pages g c = c.next_back.ensures.pages ∙ c.fill_back.ensures.pages
+
+pub returns-then-not-some-clause-kept : goal.returns-then-not-some-clause-kept
+returns-then-not-some-clause-kept g c = steps_on g.met.P.Pages.follows_trans c.fill_back.ensures.kept c.next_back.ensures.kept
+
+pub returns-then-not-some-clause-pages : goal.returns-then-not-some-clause-pages
+returns-then-not-some-clause-pages g c = c.next_back.ensures.pages ∙ c.fill_back.ensures.pages
+
+pub returns-clause-kept : goal.returns-clause-kept
+returns-clause-kept g c = steps_on g.met.P.Pages.follows_trans c.fill_back.ensures.kept c.next_back.ensures.kept
+
+pub returns-clause-pages : goal.returns-clause-pages
+returns-clause-pages g c = c.next_back.ensures.pages ∙ c.fill_back.ensures.pages

@@ -1,4 +1,5 @@
 use Rattle.std.proofs.Common.{◌≡◌, ℕ, ℤ, Ok, w64, to_z, of_z, subst, arith, rules}
+use Rattle.sqlite_btree.proofs.Results.{steps_on}
 use Rattle.sqlite_value.specs.Order.{Row}
 use Rattle.sqlite_pages.specs.Calls.{IsClean}
 use Rattle.store_table.specs.Documents.{entry}
@@ -19,3 +20,6 @@ returns-clause-done g c clean first version docs body s has =
     let same : c.in_ok-entry.entry ≡ entry c.args.coll.now c.args.idkey.now c.args.place = search rules in
     removes first size before version c.args.roots.table c.args.roots.index docs s mid after (row_at c.args.place c.args.coll.now c.args.idkey.now body) c.remove_entry.result out
     (subst (λ (e : Row). TakesEntry size mid after c.args.roots.index e c.remove_entry.result) same lost) has
+
+pub returns-clause-kept : goal.returns-clause-kept
+returns-clause-kept g c = steps_on g.met.P.Pages.follows_trans c.remove_row.ensures.kept c.remove_entry.ensures.kept

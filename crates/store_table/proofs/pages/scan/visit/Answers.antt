@@ -1,5 +1,6 @@
 use Rattle.std.proofs.Common.{◌≡◌, ◌∙◌, ◌++◌, ◌∷◌, [], ℕ, ℤ, List, true, false, w64, to_z, of_z, ap, sym, refl, subst, subst₂, arith, rules}
 use Rattle.sqlite_pages.specs.PageMap.{PageMap}
+use Rattle.sqlite_btree.proofs.Results.{steps_on}
 use Rattle.sqlite_btree.specs.Batch.{taken}
 use Rattle.sqlite_btree.specs.Stored.{as_row, IsLaidIn, IsTable}
 use Rattle.sqlite_record.specs.Record.{decode}
@@ -76,7 +77,7 @@ returns-then-not-hand_on-clause-some g c took =
 pub scan-preserved : goal.scan-preserved
 scan-preserved g c =
     record {
-      kept = search rules;
+      kept = steps_on g.met.P.Pages.follows_trans c.scan.invariant.kept c.next.ensures.kept;
       pages = c.next.ensures.pages ∙ c.scan.invariant.pages;
       root = c.next.ensures.root ∙ c.scan.invariant.root;
       given = λ took.
@@ -96,3 +97,27 @@ scan-preserved g c =
                 left_on are.table_layout _ _ are.rows c.args.coll.now docs c.scan.rows c.next.new.self was.0 c.in-Some.row place _ is_yes left (steps are.table_laid table left.among) reads is,
           );
     }
+
+pub returns-in_err-next-clause-kept : goal.returns-in_err-next-clause-kept
+returns-in_err-next-clause-kept g c = steps_on g.met.P.Pages.follows_trans c.scan.invariant.kept c.next.ensures.kept
+
+pub returns-in_err-next-clause-pages : goal.returns-in_err-next-clause-pages
+returns-in_err-next-clause-pages g c = c.next.ensures.pages ∙ c.scan.invariant.pages
+
+pub returns-then-not-branch-clause-kept : goal.returns-then-not-branch-clause-kept
+returns-then-not-branch-clause-kept g c = steps_on g.met.P.Pages.follows_trans c.scan.invariant.kept c.next.ensures.kept
+
+pub returns-then-not-branch-clause-pages : goal.returns-then-not-branch-clause-pages
+returns-then-not-branch-clause-pages g c = c.next.ensures.pages ∙ c.scan.invariant.pages
+
+pub returns-in_default-clause-kept : goal.returns-in_default-clause-kept
+returns-in_default-clause-kept g c = steps_on g.met.P.Pages.follows_trans c.scan.invariant.kept c.next.ensures.kept
+
+pub returns-in_default-clause-pages : goal.returns-in_default-clause-pages
+returns-in_default-clause-pages g c = c.next.ensures.pages ∙ c.scan.invariant.pages
+
+pub returns-then-not-hand_on-clause-kept : goal.returns-then-not-hand_on-clause-kept
+returns-then-not-hand_on-clause-kept g c = steps_on g.met.P.Pages.follows_trans c.scan.invariant.kept c.next.ensures.kept
+
+pub returns-then-not-hand_on-clause-pages : goal.returns-then-not-hand_on-clause-pages
+returns-then-not-hand_on-clause-pages g c = c.next.ensures.pages ∙ c.scan.invariant.pages
