@@ -1,15 +1,15 @@
 #!/usr/bin/env python3
-"""Proves crates in the order that ends soonest: `rt ci CRATE` for each crate once those below it are kept, several side by side.
+"""Proves crates for the gate, ahead of it: `rt ci CRATE` for each crate once those below it are kept, several side by side.
 
-    tools/prove_ahead.py [--at-once N] [--into FOLDER] [CRATE ..]
+    tools/prove_ahead.py [--at-once N] [CRATE ..]
     tools/prove_ahead.py --libraries
 
 What `rt ci` keeps of a crate counts for each checkout on this machine, and for the gate, while the texts of the crate and of all below
-it stay the same. So the gate begins with this, and whoever works calls it ahead of the gate. Without a CRATE all are proved, and with
-some these and all below them. N jobs are given out, as many as there are processors if N isn't given. The crate with the longest way to
-the end comes first, and is given two of them, as many as `rt ci` gives a crate that it proves alone; the others are given one, and wait
-while little memory is free. A crate that changes meanwhile is proved as it is when its turn comes. What was said of each is in
-target/ahead/CRATE.log, and its library is put into FOLDER, where `tools/wrong_bodies.py --beside FOLDER` waits for it.
+it stay the same. The gate itself can't begin with this: there `rt ci` refuses the name of a crate. Without a CRATE all are proved, and
+with some these and all below them. N jobs are given out, as many as there are processors if N isn't given. The crate with the longest
+way to the end comes first, and is given two of them, as many as `rt ci` gives a crate that it proves alone; the others are given one,
+and wait while little memory is free. A crate that changes meanwhile is proved as it is when its turn comes. What was said of each is in
+target/ahead/CRATE.log.
 
 The second line proves nothing: it puts the newest library that is kept of each crate into this checkout, where tools/wrong_bodies.py and
 tools/check_over.py look for it.
@@ -79,8 +79,8 @@ def start(name, jobs):
 class Ahead:
     """The crates that are still to be proved, and those that are being proved, each with its process and its jobs."""
 
-    def __init__(self, below, wanted, most, into):
-        self.below, self.most, self.into, self.ways = below, most, into, ways(below)
+    def __init__(self, below, wanted, most):
+        self.below, self.most, self.ways = below, most, ways(below)
         self.left, self.running, self.kept, self.failed = list(wanted), {}, set(), set()
 
     def settle(self):
@@ -96,11 +96,9 @@ class Ahead:
         self.left = [name for name in self.left if name not in self.failed]
 
     def tell(self, name, is_kept):
-        """Says what came of a crate, with the end of what was said of it if it isn't proved, and else puts its library where it is waited for."""
+        """Says what came of a crate, with the end of what was said of it if it isn't proved."""
         if not is_kept:
             print(*(LOGS / f"{name}.log").read_text(encoding="utf-8", errors="replace").splitlines()[-LAST:], sep="\n")
-        elif self.into:
-            put_library(newest()[name], self.into / name)
         print(f"prove_ahead.py: {name} {'kept' if is_kept else 'NOT PROVED'}", flush=True)
 
     def jobs_for(self, name):
@@ -168,7 +166,6 @@ def put_libraries():
 def main():
     reader = argparse.ArgumentParser(description=__doc__, formatter_class=argparse.RawDescriptionHelpFormatter)
     reader.add_argument("--at-once", type=int, default=os.cpu_count(), metavar="N")
-    reader.add_argument("--into", type=pathlib.Path, metavar="FOLDER")
     reader.add_argument("--libraries", action="store_true")
     reader.add_argument("crates", nargs="*", metavar="CRATE")
     words = reader.parse_args()
@@ -178,7 +175,7 @@ def main():
     unknown = [name for name in words.crates if name not in below]
     if unknown:
         sys.exit(f"prove_ahead.py: crates.txt has no {unknown[0]}")
-    return Ahead(below, with_below(below, words.crates or below), words.at_once, words.into).run()
+    return Ahead(below, with_below(below, words.crates or below), words.at_once).run()
 
 
 if __name__ == "__main__":
