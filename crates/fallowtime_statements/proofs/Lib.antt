@@ -1,3 +1,4 @@
+pub mod FieldLemmas
 pub mod ValueLemmas
 pub mod ListLemmas
 pub mod LineLemmas

@@ -1,9 +1,9 @@
 //! The keys of a command's document.
 
-ghost use Rattle.std.specs.Prelude.{◌≡◌, MatchResult};
+ghost use Rattle.std.specs.Prelude.{◌≡◌, MatchResult, map};
 ghost use Rattle.std.specs.Option.{option_map};
 ghost use Rattle.bson_model.specs.View.{content, view};
-ghost use Rattle.fallowtime_statements.specs.Fields.{AreAllowed, IsForbidden, forbidden, forbids, is_among, is_empty, names_of, of_stored, passed_by, passed_over, read_by, standing_of, standing_of_other};
+ghost use Rattle.fallowtime_statements.specs.Fields.{AreAllowed, IsForbidden, forbidden, forbids, is_among, is_empty, names_of, not_had, of_stored, of_transactions, passed_by, passed_over, read_by, standing_of, standing_of_other};
 
 use crate::fault::{Code, Fault, refuse};
 use crate::name::Name;
@@ -25,98 +25,102 @@ pub(crate) enum Standing {
     Unknown,
 }
 
-/// Whether a key names a command.
-fn is_name(name: Name, key: &str) -> bool
-    ensures { result ≡ is_among (names_of name) key.now }
+/// Whether a key is one of these.
+fn is_among(keys: &[&str], key: &str) -> bool
+    ensures { result ≡ is_among (map (λ k. k.now) keys.now) key.now }
+{
+    keys.contains(&key)
+}
+
+/// The keys that name a command; a statement in a list has none.
+fn names_of(name: Name) -> &'static [&'static str]
+    ensures { map (λ k. k.now) result.now ≡ names_of name }
 {
     match name {
-        Name::Hello => matches!(key, "hello" | "isMaster" | "ismaster"),
-        Name::Ping => key == "ping",
-        Name::BuildInfo => matches!(key, "buildInfo" | "buildinfo"),
-        Name::EndSessions => key == "endSessions",
-        Name::Insert => key == "insert",
-        Name::Find => key == "find",
-        Name::Count => key == "count",
-        Name::Update => key == "update",
-        Name::Delete => key == "delete",
-        Name::Aggregate => key == "aggregate",
-        Name::FindAndModify => key == "findAndModify",
-        Name::Distinct => key == "distinct",
-        Name::ListCollections => key == "listCollections",
-        Name::Create => key == "create",
-        Name::Drop => key == "drop",
-        Name::RenameCollection => key == "renameCollection",
-        Name::CreateIndexes => key == "createIndexes",
-        Name::ListIndexes => key == "listIndexes",
-        Name::DropIndexes => key == "dropIndexes",
-        Name::ListDatabases => key == "listDatabases",
-        Name::GetMore => key == "getMore",
-        Name::KillCursors => key == "killCursors",
-        Name::Change | Name::Removal | Name::Index => false,
+        Name::Hello => &["hello", "isMaster", "ismaster"],
+        Name::Ping => &["ping"],
+        Name::BuildInfo => &["buildInfo", "buildinfo"],
+        Name::EndSessions => &["endSessions"],
+        Name::Insert => &["insert"],
+        Name::Find => &["find"],
+        Name::Count => &["count"],
+        Name::Update => &["update"],
+        Name::Delete => &["delete"],
+        Name::Aggregate => &["aggregate"],
+        Name::FindAndModify => &["findAndModify"],
+        Name::Distinct => &["distinct"],
+        Name::ListCollections => &["listCollections"],
+        Name::Create => &["create"],
+        Name::Drop => &["drop"],
+        Name::RenameCollection => &["renameCollection"],
+        Name::CreateIndexes => &["createIndexes"],
+        Name::ListIndexes => &["listIndexes"],
+        Name::DropIndexes => &["dropIndexes"],
+        Name::ListDatabases => &["listDatabases"],
+        Name::GetMore => &["getMore"],
+        Name::KillCursors => &["killCursors"],
+        Name::Change | Name::Removal | Name::Index => &[],
     }
 }
 
-/// Whether a command reads a key.
-fn is_read(name: Name, key: &str) -> bool
-    ensures { result ≡ is_among (read_by name) key.now }
+/// The keys that a command, or a statement in its list, reads besides its own name.
+fn read_by(name: Name) -> &'static [&'static str]
+    ensures { map (λ k. k.now) result.now ≡ read_by name }
 {
     match name {
-        Name::Insert => matches!(key, "$db" | "documents" | "ordered"),
-        Name::Find => matches!(
-            key,
-            "$db"
-                | "filter"
-                | "sort"
-                | "projection"
-                | "skip"
-                | "limit"
-                | "batchSize"
-                | "singleBatch"
-        ),
-        Name::Count => matches!(key, "$db" | "query" | "skip" | "limit"),
-        Name::Update => matches!(key, "$db" | "updates" | "ordered"),
-        Name::Delete => matches!(key, "$db" | "deletes" | "ordered"),
-        Name::Aggregate => matches!(key, "$db" | "pipeline" | "cursor"),
-        Name::FindAndModify => matches!(
-            key,
-            "$db" | "query" | "update" | "remove" | "new" | "upsert" | "sort" | "fields"
-        ),
-        Name::Distinct => matches!(key, "$db" | "key" | "query"),
-        Name::ListCollections => matches!(key, "$db" | "filter"),
-        Name::RenameCollection => matches!(key, "$db" | "to"),
-        Name::CreateIndexes => matches!(key, "$db" | "indexes"),
-        Name::DropIndexes => matches!(key, "$db" | "index"),
-        Name::GetMore => matches!(key, "$db" | "collection" | "batchSize"),
-        Name::KillCursors => matches!(key, "$db" | "cursors"),
-        Name::Change => matches!(key, "q" | "u" | "multi" | "upsert"),
-        Name::Removal => matches!(key, "q" | "limit"),
-        Name::Index => matches!(key, "key" | "name"),
-        _ => key == "$db",
+        Name::Insert => &["$db", "documents", "ordered"],
+        Name::Find => &[
+            "$db",
+            "filter",
+            "sort",
+            "projection",
+            "skip",
+            "limit",
+            "batchSize",
+            "singleBatch",
+        ],
+        Name::Count => &["$db", "query", "skip", "limit"],
+        Name::Update => &["$db", "updates", "ordered"],
+        Name::Delete => &["$db", "deletes", "ordered"],
+        Name::Aggregate => &["$db", "pipeline", "cursor"],
+        Name::FindAndModify => &[
+            "$db", "query", "update", "remove", "new", "upsert", "sort", "fields",
+        ],
+        Name::Distinct => &["$db", "key", "query"],
+        Name::ListCollections => &["$db", "filter"],
+        Name::RenameCollection => &["$db", "to"],
+        Name::CreateIndexes => &["$db", "indexes"],
+        Name::DropIndexes => &["$db", "index"],
+        Name::GetMore => &["$db", "collection", "batchSize"],
+        Name::KillCursors => &["$db", "cursors"],
+        Name::Change => &["q", "u", "multi", "upsert"],
+        Name::Removal => &["q", "limit"],
+        Name::Index => &["key", "name"],
+        _ => &["$db"],
     }
 }
 
-/// Whether a key is passed over in a command of this name alone.
-fn is_passed_by(name: Name, key: &str) -> bool
-    ensures { result ≡ is_among (passed_by name) key.now }
+/// The keys that are passed over in a command of this name alone.
+fn passed_by(name: Name) -> &'static [&'static str]
+    ensures { map (λ k. k.now) result.now ≡ passed_by name }
 {
     match name {
-        Name::Hello => matches!(
-            key,
-            "client"
-                | "compression"
-                | "helloOk"
-                | "topologyVersion"
-                | "maxAwaitTimeMS"
-                | "saslSupportedMechs"
-                | "speculativeAuthenticate"
-                | "loadBalanced"
-        ),
-        Name::ListCollections => { matches!(key, "cursor" | "nameOnly" | "authorizedCollections") }
-        Name::ListIndexes => key == "cursor",
-        Name::ListDatabases => matches!(key, "nameOnly" | "authorizedDatabases"),
-        Name::CreateIndexes => key == "commitQuorum",
-        Name::Index => matches!(key, "v" | "ns" | "background"),
-        _ => false,
+        Name::Hello => &[
+            "client",
+            "compression",
+            "helloOk",
+            "topologyVersion",
+            "maxAwaitTimeMS",
+            "saslSupportedMechs",
+            "speculativeAuthenticate",
+            "loadBalanced",
+        ],
+        Name::ListCollections => &["cursor", "nameOnly", "authorizedCollections"],
+        Name::ListIndexes => &["cursor"],
+        Name::ListDatabases => &["nameOnly", "authorizedDatabases"],
+        Name::CreateIndexes => &["commitQuorum"],
+        Name::Index => &["v", "ns", "background"],
+        _ => &[],
     }
 }
 
@@ -124,22 +128,24 @@ fn is_passed_by(name: Name, key: &str) -> bool
 fn is_passed_over(key: &str) -> bool
     ensures { result ≡ is_among passed_over key.now }
 {
-    matches!(
+    is_among(
+        &[
+            "lsid",
+            "$readPreference",
+            "$clusterTime",
+            "readConcern",
+            "writeConcern",
+            "comment",
+            "maxTimeMS",
+            "apiVersion",
+            "apiStrict",
+            "apiDeprecationErrors",
+            "hint",
+            "noCursorTimeout",
+            "allowDiskUse",
+            "bypassDocumentValidation",
+        ],
         key,
-        "lsid"
-            | "$readPreference"
-            | "$clusterTime"
-            | "readConcern"
-            | "writeConcern"
-            | "comment"
-            | "maxTimeMS"
-            | "apiVersion"
-            | "apiStrict"
-            | "apiDeprecationErrors"
-            | "hint"
-            | "noCursorTimeout"
-            | "allowDiskUse"
-            | "bypassDocumentValidation"
     )
 }
 
@@ -147,19 +153,52 @@ fn is_passed_over(key: &str) -> bool
 fn is_of_stored(key: &str) -> bool
     ensures { result ≡ is_among of_stored key.now }
 {
-    matches!(
+    is_among(
+        &[
+            "capped",
+            "timeseries",
+            "validator",
+            "viewOn",
+            "unique",
+            "sparse",
+            "hidden",
+            "expireAfterSeconds",
+            "partialFilterExpression",
+            "dropTarget",
+        ],
         key,
-        "capped"
-            | "timeseries"
-            | "validator"
-            | "viewOn"
-            | "unique"
-            | "sparse"
-            | "hidden"
-            | "expireAfterSeconds"
-            | "partialFilterExpression"
-            | "dropTarget"
     )
+}
+
+/// Whether a key would change what is found.
+fn is_not_had(key: &str) -> bool
+    ensures { result ≡ is_among not_had key.now }
+{
+    is_among(
+        &[
+            "collation",
+            "filter",
+            "min",
+            "max",
+            "let",
+            "fields",
+            "returnKey",
+            "showRecordId",
+            "tailable",
+            "awaitData",
+            "allowPartialResults",
+            "oplogReplay",
+            "arrayFilters",
+        ],
+        key,
+    )
+}
+
+/// Whether a key is of a transaction.
+fn is_of_transactions(key: &str) -> bool
+    ensures { result ≡ is_among of_transactions key.now }
+{
+    is_among(&["txnNumber", "startTransaction", "autocommit"], key)
 }
 
 /// What a key is to any command that no other list has.
@@ -177,28 +216,16 @@ fn standing_of_other(key: &str) -> Standing
 fn standing_of(name: Name, key: &str) -> Standing
     ensures { result ≡ standing_of name key.now }
 {
-    if is_name(name, key) || is_read(name, key) {
-        return Standing::Read;
-    }
-    if is_passed_by(name, key) || is_passed_over(key) {
-        return Standing::Passed;
-    }
-    match key {
-        "txnNumber" | "startTransaction" | "autocommit" => Standing::Transaction,
-        "collation"
-        | "filter"
-        | "min"
-        | "max"
-        | "let"
-        | "fields"
-        | "returnKey"
-        | "showRecordId"
-        | "tailable"
-        | "awaitData"
-        | "allowPartialResults"
-        | "oplogReplay"
-        | "arrayFilters" => Standing::Unless,
-        _ => standing_of_other(key),
+    if is_among(names_of(name), key) || is_among(read_by(name), key) {
+        Standing::Read
+    } else if is_among(passed_by(name), key) || is_passed_over(key) {
+        Standing::Passed
+    } else if is_of_transactions(key) {
+        Standing::Transaction
+    } else if is_not_had(key) {
+        Standing::Unless
+    } else {
+        standing_of_other(key)
     }
 }
 

@@ -140,6 +140,11 @@ fn lasting_transfer(alloc: Global, how: Transfer<'_>) -> Result<Request<'static>
     }
 }
 
+/// Lets a request go. A function with more in it than this is far dearer to prove.
+fn discard(request: Request<'_>) {
+    drop(request);
+}
+
 /// The request without the texts of its line: a question and a change by query borrow none. `NotImplemented` if it has
 /// some.
 fn lasting(alloc: Global, request: Request<'_>) -> Result<Request<'static>, Fault>
@@ -161,13 +166,11 @@ fn lasting(alloc: Global, request: Request<'_>) -> Result<Request<'static>, Faul
         Request::Upsert(question, work, all, otherwise) => {
             Ok(Request::Upsert(question, work, all, otherwise))
         }
-        _ => Err(refuse(alloc, Code::NotImplemented, "request")),
+        other => {
+            discard(other);
+            Err(refuse(alloc, Code::NotImplemented, "request"))
+        }
     }
-}
-
-/// Lets a request go. A function with more in it than this is far dearer to prove.
-fn discard(request: Request<'static>) {
-    drop(request);
 }
 
 /// The statement of a collection with this name, if there was memory for it.
