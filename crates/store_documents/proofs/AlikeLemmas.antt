@@ -1,5 +1,5 @@
 -- What bson_json_read reads under a key is what is read of the body's tree, under the keys that IsAlike names.
-use Rattle.std.proofs.Common.{◌≡◌, ◌⊎◌, ◌&&◌, ℕ, ℤ, Bool, true, false, List, codes, Option, Some, None, Result, Ok, Err, bytes_eq, inl, inr, refl, subst, sym, ap, ◌∙◌}
+use Rattle.std.proofs.Common.{◌≡◌, ◌&&◌, ℕ, ℤ, Bool, true, false, List, codes, Option, Some, None, Result, Ok, Err, bytes_eq, inl, inr, refl, subst, sym, ap, ◌∙◌}
 use Rattle.std.specs.Prelude.{option_and_then, option_map}
 use Rattle.std.specs.Cmp.Lexicographic.{slice_cmp}
 use Rattle.std.specs.Ordering.{match_ordering, nat_cmp}
@@ -9,7 +9,6 @@ use Rattle.base64.specs.Engines.{standard}
 use Rattle.base64.specs.GeneralPurpose.{decode_of}
 use Rattle.json.specs.Json as json
 use Rattle.json.specs.Json.{Json}
-use Rattle.json.specs.Tree.{HasNumbers, MembersHaveNumbers}
 use Rattle.serde_json.specs.Data.{Data, object, member, no_members, put, string}
 use Rattle.serde_json.specs.Read.{of_json, of_members}
 use Rattle.bson_base.specs.Answer.{◌>>=◌}
@@ -162,15 +161,9 @@ timestamp_told js p i t bodies first second = (
       ∙ ap (λ r. stored.scalar_of ((r >>= timed i) >>= λ q. Ok (timestamp q.0 q.1))) second.2,
 )
 
-numbers_in : (k l : List ℕ) (p : Json × Json) (js : json.Members) → AreTwoMembers k l p js → MembersHaveNumbers js → HasNumbers p.0 × HasNumbers p.1
-numbers_in k l p js (inl is) h = let g = subst MembersHaveNumbers is h in (g.0, g.1.0)
-numbers_in k l p js (inr is) h = let g = subst MembersHaveNumbers is h in (g.1.0, g.0)
-
 pub timestamp_read : (j : Json) (js : json.Members) (p : Json × Json) (i t : ℕ) → j ≡ json.object js → AreTwoMembers (codes "i") (codes "t") p js
-    → (HasNumbers p.0 → ReadsUnsigned p.0 i) → (HasNumbers p.1 → ReadsUnsigned p.1 t) → HasNumbers j → ReadsWrapped of_timestamp j (scalar (timestamp t i))
-timestamp_read j js p i t is bodies first second h =
-    let both = numbers_in (codes "i") (codes "t") p js bodies (subst HasNumbers is h) in
-    subst (λ x. ReadsWrapped of_timestamp x (scalar (timestamp t i))) (sym is) (timestamp_told js p i t bodies (first both.0) (second both.1))
+    → ReadsUnsigned p.0 i → ReadsUnsigned p.1 t → ReadsWrapped of_timestamp j (scalar (timestamp t i))
+timestamp_read j js p i t is bodies first second = subst (λ x. ReadsWrapped of_timestamp x (scalar (timestamp t i))) (sym is) (timestamp_told js p i t bodies first second)
 
 -- ---- dates
 

@@ -5,10 +5,9 @@ ghost use Rattle.json.specs.Json as json;
 ghost use Rattle.json.specs.Print.{IsNumber};
 ghost use Rattle.json.specs.Tree.{HasNumbers};
 ghost use Rattle.json.specs.Value.{members_view, value_view};
-ghost use Rattle.serde_json.specs.View.{number_view};
 ghost use Rattle.bson_base.specs.Value.{scalar, timestamp as timestamp_of};
 ghost use Rattle.bson_model.specs.JsonKeys.{of_timestamp, reserved_of};
-ghost use Rattle.bson_model.specs.JsonRead.{u32_from};
+ghost use Rattle.bson_model.specs.JsonRead.{below_32};
 ghost use Rattle.bson_model.specs.JsonWrappers.{reserved_key};
 ghost use Rattle.bson_model.specs.View.{view};
 ghost use Rattle.store_documents.specs.Reads.{AreTwoMembers, IsAlike, ReadsJson, ReadsUnsigned, ReadsWrapped};
@@ -17,8 +16,9 @@ use crate::unread::Unread;
 use bson_json_read::{Error, read_wrapped};
 use bson_model::extjson::de::{Wrapper, integer, wrapper_of};
 use bson_model::{Bson, Timestamp};
+use fast_float::Numeral;
 use json::Value;
-use serde_json::{Number, Value as Tree};
+use serde_json::Value as Tree;
 use std::alloc::Global;
 
 /// The value of a number without a wrapper. `Unseen` if it is no whole number of 64 bits.
@@ -34,11 +34,10 @@ pub(crate) fn number(alloc: Global, text: &str) -> Result<Bson, Unread>
     }
 }
 
-/// The number in 32 unsigned bits. None for a negative number, a larger one and any double.
-fn narrow(number: &Number) -> Option<u32>
-    ensures { result ≡ u32_from (number_view number.now) }
+/// A number in 32 unsigned bits. None if it is larger.
+fn narrow(whole: u64) -> Option<u32>
+    ensures { result ≡ below_32 whole }
 {
-    let whole = number.as_u64()?;
     if whole <= u32::MAX as u64 {
         Some(whole as u32)
     } else {
@@ -47,16 +46,13 @@ fn narrow(number: &Number) -> Option<u32>
 }
 
 /// The number of a JSON number that is whole and fits 32 unsigned bits. None for any other value.
-fn unsigned(alloc: Global, value: &Value<'_>) -> Option<u32>
-    ensures { IfSome result (λ n. HasNumbers (value_view value.now) → ReadsUnsigned (value_view value.now) n) }
+fn unsigned(value: &Value<'_>) -> Option<u32>
+    ensures { IfSome result (ReadsUnsigned (value_view value.now)) }
 {
     let Value::Number(text) = value else {
         return None;
     };
-    let Ok(Tree::Number(number)) = Tree::from_str(alloc, *text) else {
-        return None;
-    };
-    narrow(&number)
+    narrow(Numeral::scan(text.as_bytes()).to_u64()?)
 }
 
 /// The values under `i` and under `t`, if these are the only keys, in either order.
@@ -80,15 +76,15 @@ fn increment_and_time<'v, 'a>(
 }
 
 /// The body of `$timestamp`: the increment and the seconds, whole numbers of 32 unsigned bits. None for any other form.
-fn timestamp(alloc: Global, value: &Value<'_>) -> Option<Timestamp>
-    ensures { IfSome result (λ t. HasNumbers (value_view value.now) → ReadsWrapped of_timestamp (value_view value.now) (scalar (timestamp_of t.time t.increment))) }
+fn timestamp(value: &Value<'_>) -> Option<Timestamp>
+    ensures { IfSome result (λ t. ReadsWrapped of_timestamp (value_view value.now) (scalar (timestamp_of t.time t.increment))) }
 {
     let Value::Object(members) = value else {
         return None;
     };
     let (increment, time) = increment_and_time(members.as_slice())?;
-    let increment = unsigned(alloc, increment)?;
-    let time = unsigned(alloc, time)?;
+    let increment = unsigned(increment)?;
+    let time = unsigned(time)?;
     Some(Timestamp { time, increment })
 }
 
@@ -129,7 +125,7 @@ pub(crate) fn wrapped(alloc: Global, key: &str, value: &Value<'_>) -> Result<Bso
 {
     match wrapper_of(key) {
         None => Err(Unread::Unseen),
-        Some(Wrapper::Timestamp) => match timestamp(alloc, value) {
+        Some(Wrapper::Timestamp) => match timestamp(value) {
             None => Err(Unread::Unseen),
             Some(moment) => Ok(Bson::Timestamp(moment)),
         },
