@@ -31,8 +31,9 @@ import bson
 import relaying
 from relaying import HEADER, LONG, LONGEST, MORE_TO_COME, OP_MSG, ROOT, Line, Relay, compiled, fail, hello, holds, is_gone, message, wait_for
 
-# Who starts this in the background may have it ignored, and what is started here would inherit that.
+# Who starts this in the background may have these signals ignored, and what is started here would inherit that.
 signal.signal(signal.SIGINT, signal.default_int_handler)
+signal.signal(signal.SIGHUP, signal.SIG_DFL)
 SEED = 20261128
 # How many times as long as over a server that answers with a constant a find may take: of the processor, and by the clock.
 MOST_WORK, LONGER = 6, 2.5
