@@ -9,7 +9,8 @@ it stay the same. The gate itself can't begin with this: there `rt ci` refuses t
 with some these and all below them. N jobs are given out, as many as there are processors if N isn't given. The crate with the longest
 way to the end comes first, and is given two of them, as many as `rt ci` gives a crate that it proves alone; the others are given one,
 and wait while little memory is free. A crate that changes meanwhile is proved as it is when its turn comes. What was said of each is in
-target/ahead/CRATE.log.
+target/ahead/CRATE.log. `rt` keeps 10 GB at the most, and a run drops at its end what it hasn't used, longest unused first: where all
+crates together take more, the gate proves again what went so.
 
 The second line proves nothing: it puts the newest library that is kept of each crate into this checkout, where tools/wrong_bodies.py and
 tools/check_over.py look for it.
