@@ -1,34 +1,19 @@
 //! The values with nothing inside that have another form in a store: the keys in them ascend, and of doubles only those
 //! that are no number, the infinities and the zeros have one.
 
-ghost use Rattle.std.specs.Prelude.{◌≡◌, None, option_map, string_bytes, IfErr, OnOk};
+ghost use Rattle.std.specs.Prelude.{◌≡◌, None, string_bytes, IfErr, OnOk};
 ghost use Rattle.bson_base.specs.Scalars.{id_bytes};
-ghost use Rattle.bson_model.specs.JsonWrite.{double_text as double_text_of, write_double, write_pointer as pointer_of, write_regex as regex_of, write_timestamp as timestamp_of};
+ghost use Rattle.bson_model.specs.JsonWrite.{write_double, write_pointer as pointer_of, write_regex as regex_of, write_timestamp as timestamp_of};
 ghost use Rattle.bson_json.specs.Prints.{Adds, AddsForm, tokens_of};
 ghost use Rattle.bson_json.specs.Straight.{IfUnseen};
 
 use crate::parts::{begin, end_both, put_number, put_text, wrap_text, wrap_texts};
 use crate::scalars::{options_in_order, print_id};
 use crate::unwritten::Unwritten;
+use bson_model::extjson::double_text;
 use bson_model::{DoubleBits, ObjectId, Timestamp};
 use json::Writer;
 use std::alloc::{AllocError, Global};
-
-/// The text of a NaN, an infinity or a zero; no other double has one.
-fn double_text(double: DoubleBits) -> Option<&'static str>
-    ensures { option_map (λ s. s.now) result ≡ double_text_of double.0 }
-{
-    let negative = double.is_negative();
-    if double.is_nan() {
-        Some(if negative { "-NaN" } else { "NaN" })
-    } else if double.is_infinite() {
-        Some(if negative { "-Infinity" } else { "Infinity" })
-    } else if double.is_zero() {
-        Some("0.0")
-    } else {
-        None
-    }
-}
 
 /// A double: its text. `Unseen` if it is finite and no zero.
 pub(crate) fn print_double(out: &mut Writer, double: DoubleBits) -> Result<(), Unwritten>

@@ -4,4 +4,4 @@ pub mod de;
 mod ser;
 
 pub use de::is_reserved_key;
-pub use ser::{Mode, date_text, is_relaxed_date};
+pub use ser::{Mode, date_text, double_text, is_relaxed_date};

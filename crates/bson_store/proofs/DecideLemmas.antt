@@ -1,21 +1,21 @@
 -- Whether a filter selects a document is one or the other, so of all documents there are those that it selects.
-use Rattle.std.proofs.Common.{◌≡◌, ◌⊎◌, inl, inr, ℕ, ℤ, suc, List, [], ◌∷◌, ◌++◌, Bool, true, false, cond, Option, Some, None, nat_eq, refl, sym, subst, ap, ap₂, true≢false}
+use Rattle.std.proofs.Common.{◌≡◌, ◌⊎◌, inl, inr, ℕ, ℤ, List, [], ◌∷◌, ◌++◌, Bool, true, false, Option, Some, None, nat_eq, refl, sym, subst, ap, ap₂, true≢false}
 use Rattle.std.specs.Bool.{Decides}
 use Rattle.std.specs.Cmp.{booleans_Decides}
-use Rattle.std.specs.Prelude.{IsSomeAnd, bytes_eq, decimal as digits, option_and_then}
+use Rattle.std.specs.Prelude.{IsSomeAnd, bytes_eq}
 use Rattle.std.proofs.lemmas.Bool.Decides.{Decides-eqb, Decides-int_eq}
 use Rattle.std.proofs.lemmas.Slice.Eq.{bytes_eq-Decides}
-use Rattle.bson_base.specs.Value.{Scalar, double, string, binary, undefined, object_id, boolean, date_time, null, regex, db_pointer, code, symbol, int32, timestamp, int64, decimal, max_key, min_key, Value, scalar, array, document, scoped_code, Items, no_items, item, Members, no_members, member, look_up, value_kind, HasDistinctKeys, ItemsHaveDistinctKeys}
+use Rattle.bson_base.specs.Value.{Scalar, double, string, binary, undefined, object_id, boolean, date_time, null, regex, db_pointer, code, symbol, int32, timestamp, int64, decimal, max_key, min_key, Value, scalar, array, document, scoped_code, Items, no_items, item, Members, no_members, member, value_kind, HasDistinctKeys}
 use Rattle.bson_base.specs.declared.spec.BinarySubtype.{BinarySubtype}
 use Rattle.bson_base.specs.declared.spec.BinarySubtype.TheVariants.{Generic, Function, BinaryOld, UuidOld, Uuid, Md5, Encrypted, Column, Sensitive, Vector, Reserved, UserDefined}
 use Rattle.bson_base.specs.declared.spec.ElementType.{ElementType}
 use Rattle.bson_base.specs.declared.spec.ElementType.TheVariants as kinds
 use Rattle.bson_meaning.specs.Meaning.{norm_in_order, Same}
 use Rattle.bson_meaning.proofs.NowLemmas.{in_order_same, same_in_order}
-use Rattle.store_model.specs.Filter.{under_places, pairs, at, Path, Filter, equals, exists, is_of, no, all_of, any_of, Filters, no_filters, filter, Selects, SelectsAll, SelectsAny}
+use Rattle.store_model.specs.Filter.{at, Filter, equals, exists, is_of, no, all_of, any_of, Filters, no_filters, filter, Selects, SelectsAll, SelectsAny}
 use Rattle.store_model.specs.Reading.{Documents}
 use Rattle.store_model.specs.State.{AreKept, Picks}
-use Rattle.store_model.proofs.SelectLemmas.{Distinct?, look_up_distinct}
+use Rattle.store_model.proofs.SelectLemmas.{Distinct?, at_distinct}
 
 -- ---- one or the other
 
@@ -193,28 +193,6 @@ kind_told kinds.MinKey kinds.MinKey = inl refl
 kind_told kinds.MinKey _ = inr (λ e. cc)
 
 -- ---- what is at a path
-
-keyed_distinct : (i : ℕ) (vs : Items) (q : List ℕ) → ItemsHaveDistinctKeys vs → Distinct? (look_up q (under_places i vs))
-keyed_distinct i no_items q h = tt
-keyed_distinct i (item v vs) q h = by (bytes_eq q (digits i)) (keyed_distinct (suc i) vs q h.1)
-  where
-    by : (b : Bool) → Distinct? (look_up q (under_places (suc i) vs)) → Distinct? (cond b (Some v) (look_up q (under_places (suc i) vs)))
-    by true r = h.0
-    by false r = r
-
-pairs_distinct : (v : Value) (q : List ℕ) → HasDistinctKeys v → Distinct? (look_up q (pairs v))
-pairs_distinct (scalar s) q h = tt
-pairs_distinct (array vs) q h = keyed_distinct 0 vs q h
-pairs_distinct (document ms) q h = look_up_distinct ms q h
-pairs_distinct (scoped_code t ms) q h = tt
-
-at_distinct : (path : Path) (v : Value) → HasDistinctKeys v → Distinct? (at v path)
-at_distinct [] v h = h
-at_distinct (k ∷ path) v h = on (look_up k (pairs v)) (at_distinct path) (pairs_distinct v k h)
-  where
-    on : (o : Option Value) → ((x : Value) → HasDistinctKeys x → Distinct? (at x path)) → Distinct? o → Distinct? (option_and_then (λ x. at x path) o)
-    on None f r = tt
-    on (Some x) f r = f x r
 
 there_told : (o : Option Value) (P : Value → Type 0) → Distinct? o → ((v : Value) → HasDistinctKeys v → Told (P v)) → Told (IsSomeAnd o P)
 there_told None P h tells = inr (λ p. absurd p)

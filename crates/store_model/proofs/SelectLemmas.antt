@@ -67,7 +67,7 @@ pairs_distinct (array vs) q h = keyed_distinct 0 vs q h
 pairs_distinct (document ms) q h = look_up_distinct ms q h
 pairs_distinct (scoped_code t ms) q h = tt
 
-at_distinct : (path : List (List ℕ)) (v : Value) → HasDistinctKeys v → Distinct? (at v path)
+pub at_distinct : (path : List (List ℕ)) (v : Value) → HasDistinctKeys v → Distinct? (at v path)
 at_distinct [] v h = h
 at_distinct (k ∷ path) v h = on (look_up k (pairs v)) (at_distinct path) (pairs_distinct v k h)
   where

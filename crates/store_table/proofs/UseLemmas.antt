@@ -6,7 +6,6 @@ use Rattle.sqlite_value.specs.declared.value.Value.{Value}
 use Rattle.sqlite_value.specs.declared.value.Value.TheVariants.{Int, Text}
 use Rattle.sqlite_value.specs.Order.{Row, column, bytes}
 use Rattle.sqlite_record.specs.Record.{decode}
-use Rattle.sqlite_record.proofs.AffinityLemmas.{widen-zero}
 use Rattle.sqlite_btree.specs.Stored.{IsTable, IsIndex, IsLaidIn}
 use Rattle.sqlite_trees.specs.declared.store.Shape.TheVariants.{Table, Index}
 use Rattle.sqlite_trees.specs.Tree.{Trees, IsAscending, rowid}
@@ -33,18 +32,8 @@ use Rattle.sqlite_store.proofs.ListingLemmas.{listing_shaped}
 use Rattle.store_table.specs.Schema.{documents_at}
 use Rattle.store_table.specs.Roots.{table_entry, index_entry}
 use Rattle.store_table.proofs.FirstRowLemmas.{has_listed, has_exact}
+use Rattle.store_table.proofs.ShownLemmas.{shown_rows, shown_entries}
 use Rattle.store_table.specs.Store.{trees_of, ListsOwn}
-
-shown_row : (row : ℤ × List ℕ) → shown Table 0 (as_row row) ≡ as_row row
-shown_row row = ap (λ r. Int row.0 ∷ r) (widen-zero (decode row.1))
-
-shown_rows : (rows : List (ℤ × List ℕ)) → map (shown Table 0) (map as_row rows) ≡ map as_row rows
-shown_rows [] = refl
-shown_rows (row ∷ rows) = ap₂ (λ r rs. r ∷ rs) (shown_row row) (shown_rows rows)
-
-shown_entries : (records : List (List ℕ)) → map (shown (Index plain) 0) (map decode records) ≡ map decode records
-shown_entries [] = refl
-shown_entries (e ∷ records) = ap₂ (λ r rs. r ∷ rs) (widen-zero (decode e)) (shown_entries records)
 
 int_is : {a b : ℕ} → ◌≡◌ {A = Value} (Int (pos a)) (Int (pos b)) → a ≡ b
 int_is e = cc

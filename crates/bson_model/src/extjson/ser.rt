@@ -166,8 +166,8 @@ fn write_i64(alloc: Global, number: i64, mode: Mode) -> Result<Value, AllocError
 }
 
 /// What is under `$numberDouble` for a NaN, an infinity or a zero; None for any other double. A negative zero loses its
-/// sign, and a NaN keeps nothing but its sign.
-fn double_text(double: DoubleBits) -> Option<&'static str>
+/// sign, and a NaN keeps nothing but its sign (MongoDB Extended JSON v2, "Conversion table").
+pub fn double_text(double: DoubleBits) -> Option<&'static str>
     ensures { option_map (λ s. s.now) result ≡ double_text_of double.0 }
 {
     let negative = double.is_negative();

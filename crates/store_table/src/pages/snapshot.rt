@@ -145,7 +145,7 @@ fn number_of(bytes: &[u8; 4]) -> u32
 }
 
 /// The size of a page, by the log or the file.
-fn page_size<D: Disk>(files: &mut Files<D>) -> Option<PageSize>
+pub(crate) fn page_size<D: Disk>(files: &mut Files<D>) -> Option<PageSize>
     requires log_usable { IsTrue (D.Disk.is_usable files.old.log) }
     requires db_usable { IsTrue (D.Disk.is_usable files.old.db) }
     ensures log { OnlyReads D.Disk files.old.log files.new.log }

@@ -13,29 +13,15 @@ ghost use Rattle.store_table.specs.Roots.{ListsTwo};
 ghost use Rattle.store_table.specs.GivenBack.{AreGivenBack, StandAlike};
 ghost use Rattle.store_table.specs.Store.{IsOpenOn};
 
+use crate::pages::snapshot::page_size;
 use crate::pages::{Roots, find_roots};
 use sqlite_btree::Scratch;
 use sqlite_disk::{Disk, Files};
 use sqlite_pager::{Options, Pager};
 use sqlite_pages::Pages;
 use sqlite_pool::Pool;
-use sqlite_wal::{PageSize, probe_first_page, probe_page_size};
+use sqlite_wal::{PageSize, probe_first_page};
 use std::alloc::Global;
-
-/// The size of a page, by the log or the file.
-fn page_size<D: Disk>(files: &mut Files<D>) -> Option<PageSize>
-    requires log_usable { IsTrue (D.Disk.is_usable files.old.log) }
-    requires db_usable { IsTrue (D.Disk.is_usable files.old.db) }
-    ensures log { OnlyReads D.Disk files.old.log files.new.log }
-    ensures db { OnlyReads D.Disk files.old.db files.new.db }
-    ensures named { IfSome result (λ size. AreClean D.Disk files.new.log files.new.db → NamesSize (seen_image D.Disk files.old.log files.old.db) (bytes_of size)) }
-{
-    let probed = probe_page_size(files);
-    match probed {
-        Ok(found) => found,
-        Err(_) => None,
-    }
-}
 
 /// Whether the first page that two files stand for begins as one of a database. Where a database is still to be made, by
 /// an opening that was killed, it doesn't, and what tells so is in the log, over which a recovery writes.
