@@ -108,29 +108,7 @@ fn average_of(values: &[Bson]) -> Result<Bson, UpdateError>
 pub(crate) fn is_null(value: &Bson) -> bool
     ensures { result ≡ is_null (view value.now) }
 {
-    match value {
-        Bson::Null => true,
-        Bson::Undefined => true,
-        Bson::Int32(_) => false,
-        Bson::Int64(_) => false,
-        Bson::Double(_) => false,
-        Bson::Decimal128(_) => false,
-        Bson::String(_) => false,
-        Bson::Array(_) => false,
-        Bson::Document(_) => false,
-        Bson::Boolean(_) => false,
-        Bson::RegularExpression(_) => false,
-        Bson::JavaScriptCode(_) => false,
-        Bson::JavaScriptCodeWithScope(_) => false,
-        Bson::Timestamp(_) => false,
-        Bson::Binary(_) => false,
-        Bson::ObjectId(_) => false,
-        Bson::DateTime(_) => false,
-        Bson::Symbol(_) => false,
-        Bson::MaxKey => false,
-        Bson::MinKey => false,
-        Bson::DbPointer(_) => false,
-    }
+    matches!(value, Bson::Null | Bson::Undefined)
 }
 
 /// The value, if it is less than the one that was met, or greater if that is asked for; else the one that was met.

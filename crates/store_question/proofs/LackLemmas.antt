@@ -16,7 +16,7 @@ use Rattle.store_question.proofs.AskLemmas.{front}
 use Rattle.store_question.proofs.EqualLemmas.{level_scalar, text_found}
 use Rattle.store_question.proofs.StandLemmas.{Met, along_bytes, along_met, text_there}
 
-occurs : (t bytes a b : List ℕ) → bytes ≡ a ++ (t ++ b) → OccursAt bytes t (length a)
+pub occurs : (t bytes a b : List ℕ) → bytes ≡ a ++ (t ++ b) → OccursAt bytes t (length a)
 occurs t bytes a b e = subst (λ (l : List ℕ). OccursAt l t (length a)) (sym e) (record {
   fits = omega (arith, length-append a (t ++ b), length-append t b);
   reads = λ j h. get_or-append-add a (t ++ b) j 0 ∙ get_or_append_left t b 0 j h;

@@ -10,11 +10,14 @@ use Rattle.store_model.specs.Filter.{under_places, Path}
 use Rattle.store_question.specs.Asked.{text_in, AnyMember, AtEnd, AtMember, AtPlace, Along, HasItem, IntoDocument, Through, Under}
 use Rattle.store_question.specs.Lacking.{StandsIn}
 
-behind : (t xs ys : List ℕ) → StandsIn t ys → StandsIn t (xs ++ ys)
+pub behind : (t xs ys : List ℕ) → StandsIn t ys → StandsIn t (xs ++ ys)
 behind t xs ys (a, b, e) = (xs ++ a, b, ap (λ (l : List ℕ). xs ++ l) e ∙ sym (append_assoc xs a (t ++ b)))
 
-before : (t xs ys : List ℕ) → StandsIn t xs → StandsIn t (xs ++ ys)
-before t xs ys (a, b, e) = (a, b ++ ys, ap (λ (l : List ℕ). l ++ ys) e ∙ append_assoc a (t ++ b) ys ∙ ap (λ (l : List ℕ). a ++ l) (append_assoc t b ys))
+pub longer : (t xs ys a b : List ℕ) → xs ≡ a ++ (t ++ b) → xs ++ ys ≡ a ++ (t ++ (b ++ ys))
+longer t xs ys a b e = ap (λ (l : List ℕ). l ++ ys) e ∙ append_assoc a (t ++ b) ys ∙ ap (λ (l : List ℕ). a ++ l) (append_assoc t b ys)
+
+pub before : (t xs ys : List ℕ) → StandsIn t xs → StandsIn t (xs ++ ys)
+before t xs ys (a, b, e) = (a, b ++ ys, longer t xs ys a b e)
 
 itself : (t : List ℕ) → StandsIn t t
 itself t = ([], [], sym (append-nil t))
@@ -22,7 +25,7 @@ itself t = ([], [], sym (append-nil t))
 pub along_bytes : (s t bytes : List ℕ) → StandsIn s t → StandsIn t bytes → StandsIn s bytes
 along_bytes s t bytes inner (a, b, e) = subst (λ (l : List ℕ). StandsIn s l) (sym e) (behind s a (t ++ b) (before s t b inner))
 
-framed : (t elements : List ℕ) → StandsIn t elements → StandsIn t (frame_of elements)
+pub framed : (t elements : List ℕ) → StandsIn t elements → StandsIn t (frame_of elements)
 unfolding frame_of
 framed t elements h = behind t (le32 (length elements + 5)) (elements ++ 0 ∷ []) (before t elements (0 ∷ []) h)
 
@@ -38,10 +41,10 @@ text_there v t e = absurd cc
 
 -- ---- members
 
-first_member : (k : List ℕ) (v : Value) (ms : Members) → StandsIn (value_bytes v) (members_bytes (member k v ms))
+pub first_member : (k : List ℕ) (v : Value) (ms : Members) → StandsIn (value_bytes v) (members_bytes (member k v ms))
 first_member k v ms = (tag_byte (value_kind v) ∷ cstring_of k, members_bytes ms, refl)
 
-other_member : (t k : List ℕ) (v : Value) (ms : Members) → StandsIn t (members_bytes ms) → StandsIn t (members_bytes (member k v ms))
+pub other_member : (t k : List ℕ) (v : Value) (ms : Members) → StandsIn t (members_bytes ms) → StandsIn t (members_bytes (member k v ms))
 other_member t k v ms h = behind t (tag_byte (value_kind v) ∷ cstring_of k) (value_bytes v ++ members_bytes ms) (behind t (value_bytes v) (members_bytes ms) h)
 
 found_stands : (k : List ℕ) (ms : Members) (v : Value) → look_up k ms ≡ Some v → StandsIn (value_bytes v) (members_bytes ms)
@@ -53,11 +56,11 @@ found_stands k (member l w ms) v e = by (found_stands k ms v) (bytes_eq k l) e
     by more false e = other_member (value_bytes v) l w ms (more e)
 
 -- each key stands among the bytes, with its 00
-key_first : (k : List ℕ) (v : Value) (ms : Members) → StandsIn (k ++ 0 ∷ []) (members_bytes (member k v ms))
+pub key_first : (k : List ℕ) (v : Value) (ms : Members) → StandsIn (k ++ 0 ∷ []) (members_bytes (member k v ms))
 unfolding cstring_of
 key_first k v ms = (tag_byte (value_kind v) ∷ [], value_bytes v ++ members_bytes ms, refl)
 
-key_stands : (k : List ℕ) (ms : Members) (v : Value) → look_up k ms ≡ Some v → StandsIn (k ++ 0 ∷ []) (members_bytes ms)
+pub key_stands : (k : List ℕ) (ms : Members) (v : Value) → look_up k ms ≡ Some v → StandsIn (k ++ 0 ∷ []) (members_bytes ms)
 key_stands k no_members v e = absurd cc
 key_stands k (member l w ms) v e = by (key_stands k ms v) (bytes_eq k l) refl e
   where

@@ -10,7 +10,7 @@ ghost use Rattle.store_model.specs.Filter.{pairs, under_places};
 ghost use Rattle.store_question.specs.Asked.{Asked, Askeds, Answers, AnswersAll, AnswersAny, AnyMember, HasItem, IntoDocument, AtEnd, AtMember, AtPlace, Along, Through, Under};
 ghost use Rattle.store_question.specs.Reads.{Found, FindsMember, HasPattern, OfElement, OfMembers, OneHasPattern, ReadEach, Reads, Shows, Tells, form_of, forms_of};
 
-use crate::lacking::{lacks, lacks_place};
+use crate::lacking::{lacks, lacks_place, stands_once};
 use crate::leaf::{begins, has_kind, has_size, items_in, leaves, lies, matches};
 use crate::question::Question;
 use bson_raw::{RawBsonRef, RawDocument, RawElement};
@@ -226,7 +226,7 @@ fn at_member(
         return under(alloc, value, key.as_str(), rest, question, opens);
     }
     match items_in(Some(value)) {
-        Some(items) => through(alloc, items, key.as_str(), rest, question, opens),
+        Some(items) => into_items(alloc, items, key.as_str(), rest, question, opens),
         None => fits(alloc, None, question),
     }
 }
@@ -250,6 +250,49 @@ fn at_end(
         return Ok(true);
     }
     fits(alloc, Some(value), question)
+}
+
+/// Into an array. Where none of its items has the key inside, only the one whose place it is can answer.
+#[cycle(asking)]
+fn into_items(
+    alloc: Global,
+    items: RawDocument<'_>,
+    key: &str,
+    rest: &[String],
+    question: &Question,
+    opens: bool,
+) -> Result<bool, AllocError>
+    ensures { (t : Asked) → Reads (form_of question.now) t → OfMembers (bytes_of items.entry)
+        (λ ms. Tells (HasPattern (form_of question.now)) result (AnyMember (Through opens (Answers t) key.now (AtMember opens (Answers t) (path_of rest.now))
+        (AtPlace opens (Answers t) (path_of rest.now))) ms)) }
+{
+    if stands_once(items.as_bytes(), key) {
+        let absent = fits(alloc, None, question)?;
+        if !absent {
+            if let Some(element) = find(items, key) {
+                return element_at_place(alloc, &element, rest, question, opens);
+            }
+        }
+    }
+    through(alloc, items, key, rest, question, opens)
+}
+
+/// On from the item of an element that was reached by its place.
+#[cycle(asking)]
+fn element_at_place(
+    alloc: Global,
+    element: &RawElement<'_>,
+    path: &[String],
+    question: &Question,
+    opens: bool,
+) -> Result<bool, AllocError>
+    ensures { (t : Asked) → Reads (form_of question.now) t → OfElement (parts_of element.now)
+        (λ k v. Tells (HasPattern (form_of question.now)) result (AtPlace opens (Answers t) (path_of path.now) v)) }
+{
+    match value_of(element) {
+        Some(found) => at_place(alloc, found, path, question, opens),
+        None => Ok(false),
+    }
 }
 
 /// Through the items of an array.
@@ -363,7 +406,7 @@ fn at_place(
         return under(alloc, value, key.as_str(), rest, question, opens);
     }
     match items_in(Some(value)) {
-        Some(items) => through(alloc, items, key.as_str(), rest, question, opens),
+        Some(items) => into_items(alloc, items, key.as_str(), rest, question, opens),
         None => Ok(false),
     }
 }

@@ -1,13 +1,13 @@
 //! Documents that can't answer, told by a search of their bytes.
 
-ghost use Rattle.std.specs.Prelude.{◌≡◌, ◌∷◌, [], IsTrue, None, Some, map, true};
+ghost use Rattle.std.specs.Prelude.{◌≡◌, ◌++◌, ◌∷◌, [], IsTrue, None, Some, map, true};
 ghost use Rattle.bson_base.specs.Value.{Members, Value, document as tree, look_up};
 ghost use Rattle.bson_bytes.specs.Encode.{encode, value_bytes};
 ghost use Rattle.bson_raw.specs.Convert.{SpellsRawValue};
 ghost use Rattle.bson_raw.specs.Raw.{ref_value};
 ghost use Rattle.store_model.specs.Filter.{Path, pairs};
 ghost use Rattle.store_question.specs.Asked.{Along, Answers, AnswersAll, Asked, Askeds, lies_to};
-ghost use Rattle.store_question.specs.Lacking.{IsTextBeyond, StandsIn};
+ghost use Rattle.store_question.specs.Lacking.{IsTextBeyond, StandsIn, StandsOnce};
 ghost use Rattle.store_question.specs.Reads.{Found, ReadEach, Reads, form_of, forms_of};
 
 use crate::leaf::text_of;
@@ -111,4 +111,25 @@ fn lacks_name(bytes: &[u8], byte: u8) -> bool
     ensures { IsTrue result → StandsIn (byte ∷ 0 ∷ []) bytes.now → ⊥ }
 {
     find(bytes, &[byte, 0]).is_none()
+}
+
+/// Whether a key of one byte stands at most once among bytes, with the 00 behind it: where it is that of an element, it is
+/// no key inside of one. False says nothing.
+pub(crate) fn stands_once(bytes: &[u8], key: &str) -> bool
+    ensures { IsTrue result → StandsOnce (key.now ++ 0 ∷ []) bytes.now }
+{
+    match key.as_bytes() {
+        [byte] => name_stands_once(bytes, *byte),
+        _ => false,
+    }
+}
+
+/// The same of the byte that is the key.
+fn name_stands_once(bytes: &[u8], byte: u8) -> bool
+    ensures { IsTrue result → StandsOnce (byte ∷ 0 ∷ []) bytes.now }
+{
+    match find(bytes, &[byte, 0]) {
+        Some(place) => lacks_name(&bytes[place + 1..], byte),
+        None => true,
+    }
 }

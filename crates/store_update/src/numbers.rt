@@ -31,23 +31,7 @@ fn number_of(value: &Bson) -> Result<Number, UpdateError>
         Bson::Int64(number) => Ok(Number::Whole(*number)),
         Bson::Double(double) => Ok(Number::Double(double.to_bits())),
         Bson::Decimal128(_) => Err(UpdateError::Decimal),
-        Bson::String(_) => Err(UpdateError::NotANumber),
-        Bson::Array(_) => Err(UpdateError::NotANumber),
-        Bson::Document(_) => Err(UpdateError::NotANumber),
-        Bson::Boolean(_) => Err(UpdateError::NotANumber),
-        Bson::Null => Err(UpdateError::NotANumber),
-        Bson::RegularExpression(_) => Err(UpdateError::NotANumber),
-        Bson::JavaScriptCode(_) => Err(UpdateError::NotANumber),
-        Bson::JavaScriptCodeWithScope(_) => Err(UpdateError::NotANumber),
-        Bson::Timestamp(_) => Err(UpdateError::NotANumber),
-        Bson::Binary(_) => Err(UpdateError::NotANumber),
-        Bson::ObjectId(_) => Err(UpdateError::NotANumber),
-        Bson::DateTime(_) => Err(UpdateError::NotANumber),
-        Bson::Symbol(_) => Err(UpdateError::NotANumber),
-        Bson::Undefined => Err(UpdateError::NotANumber),
-        Bson::MaxKey => Err(UpdateError::NotANumber),
-        Bson::MinKey => Err(UpdateError::NotANumber),
-        Bson::DbPointer(_) => Err(UpdateError::NotANumber),
+        _ => Err(UpdateError::NotANumber),
     }
 }
 
@@ -55,58 +39,17 @@ fn number_of(value: &Bson) -> Result<Number, UpdateError>
 pub fn is_number(value: &Bson) -> bool
     ensures { result ≡ is_number (view value.now) }
 {
-    match value {
-        Bson::Int32(_) => true,
-        Bson::Int64(_) => true,
-        Bson::Double(_) => true,
-        Bson::Decimal128(_) => true,
-        Bson::String(_) => false,
-        Bson::Array(_) => false,
-        Bson::Document(_) => false,
-        Bson::Boolean(_) => false,
-        Bson::Null => false,
-        Bson::RegularExpression(_) => false,
-        Bson::JavaScriptCode(_) => false,
-        Bson::JavaScriptCodeWithScope(_) => false,
-        Bson::Timestamp(_) => false,
-        Bson::Binary(_) => false,
-        Bson::ObjectId(_) => false,
-        Bson::DateTime(_) => false,
-        Bson::Symbol(_) => false,
-        Bson::Undefined => false,
-        Bson::MaxKey => false,
-        Bson::MinKey => false,
-        Bson::DbPointer(_) => false,
-    }
+    matches!(
+        value,
+        Bson::Int32(_) | Bson::Int64(_) | Bson::Double(_) | Bson::Decimal128(_)
+    )
 }
 
 /// Whether a value is an integer of 32 bits.
 fn is_narrow(value: &Bson) -> bool
     ensures { result ≡ is_narrow (view value.now) }
 {
-    match value {
-        Bson::Int32(_) => true,
-        Bson::Int64(_) => false,
-        Bson::Double(_) => false,
-        Bson::Decimal128(_) => false,
-        Bson::String(_) => false,
-        Bson::Array(_) => false,
-        Bson::Document(_) => false,
-        Bson::Boolean(_) => false,
-        Bson::Null => false,
-        Bson::RegularExpression(_) => false,
-        Bson::JavaScriptCode(_) => false,
-        Bson::JavaScriptCodeWithScope(_) => false,
-        Bson::Timestamp(_) => false,
-        Bson::Binary(_) => false,
-        Bson::ObjectId(_) => false,
-        Bson::DateTime(_) => false,
-        Bson::Symbol(_) => false,
-        Bson::Undefined => false,
-        Bson::MaxKey => false,
-        Bson::MinKey => false,
-        Bson::DbPointer(_) => false,
-    }
+    matches!(value, Bson::Int32(_))
 }
 
 /// Whether a number fits in 32 bits.

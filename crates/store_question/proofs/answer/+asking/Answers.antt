@@ -1,4 +1,4 @@
-use Rattle.std.proofs.Common.{rules, ◌≡◌, ◌↔◌, ◌∙◌, IsTrue, true, false, ℕ, List, Option, Some, None, String, is_some, refl, sym, ap, subst}
+use Rattle.std.proofs.Common.{rules, ◌≡◌, ◌↔◌, ◌∙◌, ◌++◌, ◌∷◌, [], IsTrue, true, false, ℕ, List, Option, Some, None, String, is_some, refl, sym, ap, subst, arith}
 use Rattle.std.specs.Prelude.{option_and_then}
 use Rattle.std.proofs.lemmas.Int.{to_z-of_z}
 use mir.Syntax.{w64}
@@ -12,13 +12,17 @@ use Rattle.store_question.specs.Filters.{path_of}
 use Rattle.store_question.specs.Views.{Encodes}
 use Rattle.store_model.specs.Filter.{under_places}
 use Rattle.store_question.specs.declared.question.Question.{Question, the_lemmas}
-use Rattle.store_question.specs.Asked.{Asked, at, whole, has_item, no, leaves, begins, begins_so, text_in, Answers, AtMember, AtPlace, Along, HasItem, Through}
+use Rattle.store_question.specs.Asked.{Asked, at, whole, has_item, no, leaves, begins, begins_so, text_in, Answers, AtMember, AtPlace, Along, Through}
 use Rattle.store_question.specs.Reads.{Form, at_form, whole_form, item_form, not_form, remainder_form, begins_form, matches_form, Found, HasPattern, Reads, Tells, form_of}
 use Rattle.regex.specs.Strings.{regex_pattern}
 use Rattle.regex.specs.declared.string.regex.Regex.{Regex}
 use Rattle.store_question.specs.Patterns.{IsReadFrom, matches_so}
 use Rattle.store_question.proofs.AskLemmas.{answered, all_broken, all_on, all_end, all_refused, some_found, some_on, some_end, some_refused, not_told, has_items, end_item, end_itself, end_whole, is_document, no_document, member_document, member_array, member_other, place_document, place_array, place_other, into_it, through_here}
 use Rattle.store_question.proofs.WalkLemmas.{any_start, any_here, any_passed, any_fault, any_end, any_refused}
+use Rattle.bson_base.proofs.MemberLemmas.{found_levels}
+use Rattle.store_question.specs.Lacking.{StandsOnce}
+use Rattle.store_question.proofs.MemberLemmas.{found_back}
+use Rattle.store_question.proofs.OnceLemmas.{alone}
 use Rattle.store_question.proofs.TellLemmas.{left_by, matched, one_has, over, told}
 use Rattle.store_question.proofs.answer.+asking.Goals as goal
 
@@ -93,7 +97,7 @@ pub at_member-returns-in-Some-items_in : goal.at_member-returns-in-Some-items_in
 at_member-returns-in-Some-items_in t c =
     λ a r v f.
     let h = c.in-Some-items_in.ensures (Some v) (v, refl, f) in
-    told _ _ _ c.through.result (λ b. member_array c.args.opens (Answers a) b c.args.path.now c.in-Some.key.now c.in-Some.rest.now c.as_str-in-Some-items_in.result.now v c.in-Some.ensures.cases.0 c.as_str-in-Some-items_in.ensures.value h.0 h.1) (c.through.ensures a r (under_places 0 h.0) h.2 h.3 h.4)
+    told _ _ _ c.into_items.result (λ b. member_array c.args.opens (Answers a) b c.args.path.now c.in-Some.key.now c.in-Some.rest.now c.as_str-in-Some-items_in.result.now v c.in-Some.ensures.cases.0 c.as_str-in-Some-items_in.ensures.value h.0 h.1) (c.into_items.ensures a r (under_places 0 h.0) h.2 h.3 h.4)
 
 pub at_place-returns-then-is_some : goal.at_place-returns-then-is_some
 at_place-returns-then-is_some t c =
@@ -105,7 +109,7 @@ pub at_place-returns-in-Some-items_in : goal.at_place-returns-in-Some-items_in
 at_place-returns-in-Some-items_in t c =
     λ a r v f.
     let h = c.in-Some-items_in.ensures (Some v) (v, refl, f) in
-    told _ _ _ c.through.result (λ b. place_array c.args.opens (Answers a) b c.args.path.now c.in-Some.key.now c.in-Some.rest.now c.as_str-in-Some-items_in.result.now v c.in-Some.ensures.cases.0 c.as_str-in-Some-items_in.ensures.value h.0 h.1) (c.through.ensures a r (under_places 0 h.0) h.2 h.3 h.4)
+    told _ _ _ c.into_items.result (λ b. place_array c.args.opens (Answers a) b c.args.path.now c.in-Some.key.now c.in-Some.rest.now c.as_str-in-Some-items_in.result.now v c.in-Some.ensures.cases.0 c.as_str-in-Some-items_in.ensures.value h.0 h.1) (c.into_items.ensures a r (under_places 0 h.0) h.2 h.3 h.4)
 
 pub at_member-returns-in-None : goal.at_member-returns-in-None
 at_member-returns-in-None t c =
@@ -258,3 +262,15 @@ goes_through-returns-then-eq t c =
     told _ _ _ c.at_place.result
     (λ b. through_here c.args.opens (Answers a) c.args.key.now (AtMember c.args.opens (Answers a) (path_of c.args.rest.now)) (AtPlace c.args.opens (Answers a) (path_of c.args.rest.now)) (parts_of c.args.element.now).key v c.in_ok-held.held b (c.in_ok-held.ensures a r v found) c.if-held.false named)
     (c.at_place.ensures a r v found)
+
+pub into_items-returns-in_err-absent : goal.into_items-returns-in_err-absent
+into_items-returns-in_err-absent t c = λ a r ms is back low. left_by _ _ _ c.from_residual.result c.from_residual.ensures.1 (c.in_err-absent.ensures a r None refl)
+
+pub into_items-returns-in-Some : goal.into_items-returns-in-Some
+into_items-returns-in-Some t c =
+    λ a r ms is back low.
+    let there = c.in-Some.ensures ms is back in
+    let silent : Answers a None → ⊥ = λ n. let yes = (c.in_ok-absent.ensures a r None refl).1 n in absurd cc in
+    told _ _ _ c.element_at_place.result
+    (λ b. alone c.args.opens (Answers a) silent c.args.key.now (AtMember c.args.opens (Answers a) (path_of c.args.rest.now)) (AtPlace c.args.opens (Answers a) (path_of c.args.rest.now)) b (bytes_of c.args.items) ms there.0 is (subst (λ (l : List ℕ). StandsOnce (c.args.key.now ++ 0 ∷ []) l) c.as_bytes.ensures (c.stands_once.ensures c.if-stands_once.true)) there.1)
+    (c.element_at_place.ensures a r there.0 there.2 (found_back c.args.key.now ms there.0 back there.1) (let fits = found_levels c.args.key.now ms there.0 there.1 in omega arith))
