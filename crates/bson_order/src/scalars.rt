@@ -36,8 +36,7 @@ const NO_ID: [u8; 12] = [0; 12];
 pub fn is_not_a_number(value: RawBsonRef<'_>) -> bool
     ensures { (v : Value) → SpellsRawValue (ref_value value.entry) v → result ≡ is_no_number v }
 {
-    let nowhere = comparand_of(value).number.is_nan();
-    rank_of(value) == 3 && nowhere
+    rank_of(value) == 3 && comparand_of(value).number.is_nan()
 }
 
 /// The number that a value is.

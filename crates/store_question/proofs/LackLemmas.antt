@@ -1,8 +1,10 @@
 -- A document that has nowhere the text that a question asks for.
-use Rattle.std.proofs.Common.{◌≡◌, ◌⊎◌, inl, inr, ℕ, ◌+◌, ◌<◌, List, ◌++◌, map, drop, length, get_or, true, false, IsTrue, Option, Some, None, is_some, sym, ap, ◌∙◌, subst, arith}
+use Rattle.std.proofs.Common.{◌≡◌, ◌⊎◌, inl, inr, ℕ, ◌+◌, ◌-◌, ◌<◌, List, ◌++◌, map, drop, length, get_or, true, false, IsTrue, Option, Some, None, is_some, sym, ap, ◌∙◌, subst, arith}
 use Rattle.std.specs.Prelude.{unwrap_or}
 use Rattle.std.proofs.lemmas.List.{get_or-append-add, get_or_append_left, length-append}
-use Rattle.memchr.specs.Find.{FindsNeedle, OccursAt}
+use Rattle.memchr.specs.Find.{FindsNeedle, Nowhere, OccursAt}
+use Rattle.memchr.specs.Pairs.{HasPair, IsPairFinderOf, reach_of}
+use Rattle.memchr.specs.declared.arch.all.packedpair.Finder.{Finder}
 use Rattle.bson_base.specs.Value.{Scalar, Value, scalar, null, string, symbol}
 use Rattle.bson_bytes.specs.Encode.{value_bytes}
 use Rattle.store_model.specs.Filter.{Path}
@@ -26,6 +28,18 @@ occurs t bytes a b e = subst (λ (l : List ℕ). OccursAt l t (length a)) (sym e
 pub not_there : (t bytes : List ℕ) (r : Option ℕ) → FindsNeedle bytes t 0 r → is_some r ≡ false → StandsIn t bytes → ⊥
 not_there t bytes None f e (a, b, is) = f (length a) (omega arith) (omega (arith, ap length is, length-append a (t ++ b))) (occurs t bytes a b is)
 not_there t bytes (Some k) f e s = absurd cc
+
+-- where its pair of bytes stands nowhere, the text doesn't
+pub no_pair : (f : Finder) (t bytes : List ℕ) → IsPairFinderOf f t → Nowhere (HasPair f bytes) 0 (length bytes - reach_of f) → StandsIn t bytes → ⊥
+no_pair f t bytes is none (a, b, e) =
+    let there = occurs t bytes a b e in
+    let fits = there.fits in
+    let one = is.pair.first in
+    let two = is.pair.second in
+    none (length a) (omega arith) (omega (arith, fits, one, two)) (record {
+      first = there.reads f.pair.index1 one ∙ sym is.byte1;
+      second = there.reads f.pair.index2 two ∙ sym is.byte2;
+    })
 
 text_same : (s : List ℕ) (u : Value) (other : Scalar) → u ≡ scalar other → (other ≡ string s) ⊎ (other ≡ symbol s) → text_in u ≡ Some s
 text_same s u other is (inl e) = ap text_in (is ∙ ap scalar e)

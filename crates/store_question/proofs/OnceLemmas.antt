@@ -7,7 +7,8 @@ use Rattle.memchr.specs.Find.{FindsNeedle}
 use Rattle.bson_base.proofs.MemberLemmas.{equal_keys, same_key}
 use Rattle.bson_base.specs.Tags.{tag_byte}
 use Rattle.bson_base.specs.Value.{Value, scalar, array, document, scoped_code, Members, no_members, member, look_up, value_kind}
-use Rattle.bson_bytes.specs.Encode.{cstring_of, encode, frame_of, le32, members_bytes, value_bytes}
+use Rattle.bson_bytes.proofs.SpellingLemmas.{framed_inside}
+use Rattle.bson_bytes.specs.Encode.{cstring_of, encode, frame_of, members_bytes, value_bytes}
 use Rattle.store_question.specs.Asked.{AnyMember, IntoDocument, Through}
 use Rattle.store_question.specs.Lacking.{StandsIn, StandsOnce}
 use Rattle.store_question.proofs.LackLemmas.{not_there, occurs}
@@ -46,9 +47,8 @@ once_behind n xs ys once a b c d e f =
 once_before : (n xs ys : List ℕ) → StandsOnce n (xs ++ ys) → StandsOnce n xs
 once_before n xs ys once a b c d e f = once a (b ++ ys) c (d ++ ys) (longer n xs ys a b e) (longer n xs ys c d f)
 
-once_framed : (n elements : List ℕ) → StandsOnce n (frame_of elements) → StandsOnce n elements
-unfolding frame_of
-once_framed n elements once = once_before n elements (0 ∷ []) (once_behind n (le32 (length elements + 5)) (elements ++ 0 ∷ []) once)
+once_inside : (n elements : List ℕ) → StandsOnce n (drop 4 (frame_of elements)) → StandsOnce n elements
+once_inside n elements once = once_before n elements (0 ∷ []) (subst (StandsOnce n) (framed_inside elements) once)
 
 not_both : (n xs ys : List ℕ) → 1 ≤ length n → StandsOnce n (xs ++ ys) → StandsIn n xs → StandsIn n ys → ⊥
 not_both n xs ys some once (a, b, e) (c, d, f) =
@@ -82,6 +82,19 @@ module _ (k : List ℕ) where
   once_later l v ms once = once_behind name ((tag_byte (value_kind v) ∷ cstring_of l) ++ value_bytes v) (members_bytes ms) (parted l v ms once)
 
 -- ---- what answers through an array
+
+module _ (opens : Bool) (P : Option Value → Type 0) (k : List ℕ) (On Here : Value → Type 0) where
+  here_any : (ms : Members) (w : Value) → look_up k ms ≡ Some w → Here w → AnyMember (Through opens P k On Here) ms
+  here_any no_members w e h = absurd cc
+  here_any (member l v ms) w e h = by (here_any ms w) (bytes_eq k l) refl e h
+    where
+      by : (look_up k ms ≡ Some w → Here w → AnyMember (Through opens P k On Here) ms) → (b : Bool) → bytes_eq k l ≡ b → cond b (Some v) (look_up k ms) ≡ Some w → Here w → AnyMember (Through opens P k On Here) (member l v ms)
+      by more true s e h = let same : v ≡ w = cc in inl (inr (sym (equal_keys k l s), subst Here (sym same) h))
+      by more false s e h = inr (more e h)
+
+  -- the item whose place is the key answers
+  pub by_place : (ms : Members) (w : Value) → look_up k ms ≡ Some w → Here w → IsTrue true ↔ AnyMember (Through opens P k On Here) ms
+  by_place ms w e h = (λ t. here_any ms w e h, λ a. refl)
 
 module _ (opens : Bool) (P : Option Value → Type 0) (absent : P None → ⊥) (k : List ℕ) (On Here : Value → Type 0) where
   into_none : (v : Value) → (StandsIn (k ++ 0 ∷ []) (value_bytes v) → ⊥) → IntoDocument opens P k On v → ⊥
@@ -121,16 +134,8 @@ module _ (opens : Bool) (P : Option Value → Type 0) (absent : P None → ⊥) 
       by more false s e (inl t) = absurd (later_only l v ms w e s once t)
       by more false s e (inr h) = more e h
 
-  here_any : (ms : Members) (w : Value) → look_up k ms ≡ Some w → Here w → AnyMember (Through opens P k On Here) ms
-  here_any no_members w e h = absurd cc
-  here_any (member l v ms) w e h = by (here_any ms w) (bytes_eq k l) refl e h
-    where
-      by : (look_up k ms ≡ Some w → Here w → AnyMember (Through opens P k On Here) ms) → (b : Bool) → bytes_eq k l ≡ b → cond b (Some v) (look_up k ms) ≡ Some w → Here w → AnyMember (Through opens P k On Here) (member l v ms)
-      by more true s e h = let same : v ≡ w = cc in inl (inr (sym (equal_keys k l s), subst Here (sym same) h))
-      by more false s e h = inr (more e h)
-
-  -- only the item whose place is the key can answer
-  pub alone : (b : Bool) (bytes : List ℕ) (ms : Members) (w : Value) → bytes ≡ encode ms → StandsOnce (k ++ 0 ∷ []) bytes → look_up k ms ≡ Some w → IsTrue b ↔ Here w → IsTrue b ↔ AnyMember (Through opens P k On Here) ms
-  alone b bytes ms w is once e h =
-      let inside = once_framed (k ++ 0 ∷ []) (members_bytes ms) (subst (λ (l : List ℕ). StandsOnce (k ++ 0 ∷ []) l) is once) in
-      (λ t. here_any ms w e (h.0 t), λ x. h.1 (only_here ms w inside e x))
+  -- it doesn't, and no other can
+  pub by_none : (bytes : List ℕ) (ms : Members) (w : Value) → bytes ≡ encode ms → StandsOnce (k ++ 0 ∷ []) (drop 4 bytes) → look_up k ms ≡ Some w → (Here w → ⊥) → IsTrue false ↔ AnyMember (Through opens P k On Here) ms
+  by_none bytes ms w is once e none =
+      let inside = once_inside (k ++ 0 ∷ []) (members_bytes ms) (subst (λ (l : List ℕ). StandsOnce (k ++ 0 ∷ []) (drop 4 l)) is once) in
+      (λ t. absurd cc, λ a. absurd (none (only_here ms w inside e a)))

@@ -1,6 +1,6 @@
 //! Whether a document answers a question.
 
-ghost use Rattle.std.specs.Prelude.{◌≡◌, ◌↔◌, ◌≤◌, IsTrue, map, Some, true, Option as Maybe};
+ghost use Rattle.std.specs.Prelude.{◌≡◌, ◌↔◌, ◌≤◌, IfSome, IsTrue, map, Some, true, Option as Maybe};
 ghost use Rattle.bson_base.specs.Value.{Members, Value, array as array_value, document as tree, levels, look_up, Items};
 ghost use Rattle.bson_bytes.specs.Encode.{encode};
 ghost use Rattle.bson_raw.specs.View.{bytes_of, parts_of};
@@ -252,7 +252,8 @@ fn at_end(
     fits(alloc, Some(value), question)
 }
 
-/// Into an array. Where none of its items has the key inside, only the one whose place it is can answer.
+/// Into an array. The item whose place the key is comes first: where it doesn't answer, no other does if none has the key
+/// inside and what is absent doesn't answer.
 #[cycle(asking)]
 fn into_items(
     alloc: Global,
@@ -266,12 +267,17 @@ fn into_items(
         (λ ms. Tells (HasPattern (form_of question.now)) result (AnyMember (Through opens (Answers t) key.now (AtMember opens (Answers t) (path_of rest.now))
         (AtPlace opens (Answers t) (path_of rest.now))) ms)) }
 {
+    let Some(element) = item_at(items, key) else {
+        return through(alloc, items, key, rest, question, opens);
+    };
+    let held = element_at_place(alloc, &element, rest, question, opens)?;
+    if held {
+        return Ok(true);
+    }
     if stands_once(items.as_bytes(), key) {
         let absent = fits(alloc, None, question)?;
         if !absent {
-            if let Some(element) = find(items, key) {
-                return element_at_place(alloc, &element, rest, question, opens);
-            }
+            return Ok(false);
         }
     }
     through(alloc, items, key, rest, question, opens)
@@ -448,6 +454,21 @@ fn find<'a>(document: RawDocument<'a>, key: &str) -> Option<RawElement<'a>>
         }
     }
     None
+}
+
+/// The element under a key of one digit. None says nothing of other keys.
+fn item_at<'a>(items: RawDocument<'a>, key: &str) -> Option<RawElement<'a>>
+    ensures { (ms : Members) → bytes_of items.entry ≡ encode ms → ComeBack ms
+        → IfSome result (λ e. FindsElement (Some e) (look_up key.now ms)) }
+{
+    let [digit] = key.as_bytes() else {
+        return None;
+    };
+    if digit.is_ascii_digit() {
+        find(items, key)
+    } else {
+        None
+    }
 }
 
 /// The value of an element, unless its payload has a fault. Takes no memory.

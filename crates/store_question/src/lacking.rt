@@ -1,10 +1,11 @@
 //! Documents that can't answer, told by a search of their bytes.
 
-ghost use Rattle.std.specs.Prelude.{◌≡◌, ◌++◌, ◌∷◌, [], IsTrue, None, Some, map, true};
+ghost use Rattle.std.specs.Prelude.{◌≡◌, ◌++◌, ◌∷◌, [], IsTrue, None, Some, drop, map, true};
 ghost use Rattle.bson_base.specs.Value.{Members, Value, document as tree, look_up};
 ghost use Rattle.bson_bytes.specs.Encode.{encode, value_bytes};
 ghost use Rattle.bson_raw.specs.Convert.{SpellsRawValue};
 ghost use Rattle.bson_raw.specs.Raw.{ref_value};
+ghost use Rattle.memchr.specs.Find.{FindsNeedle};
 ghost use Rattle.store_model.specs.Filter.{Path, pairs};
 ghost use Rattle.store_question.specs.Asked.{Along, Answers, AnswersAll, Asked, Askeds, lies_to};
 ghost use Rattle.store_question.specs.Lacking.{IsTextBeyond, StandsIn, StandsOnce};
@@ -13,6 +14,7 @@ ghost use Rattle.store_question.specs.Reads.{Found, ReadEach, Reads, form_of, fo
 use crate::leaf::text_of;
 use crate::question::{Comparison, Question};
 use bson_raw::RawBsonRef;
+use memchr::arch::all::packedpair::Finder;
 use memchr::memmem::find;
 
 /// Whether the bytes of a document have nowhere a text that the question asks for, so that the document can't answer: a
@@ -82,7 +84,22 @@ fn lacks_equal(bytes: &[u8], comparison: Comparison, other: RawBsonRef<'_>) -> b
 fn lacks_text(bytes: &[u8], text: &str) -> bool
     ensures { IsTrue result → StandsIn text.now bytes.now → ⊥ }
 {
-    find(bytes, text.as_bytes()).is_none()
+    stands_nowhere(bytes, text.as_bytes())
+}
+
+/// The same of its bytes.
+fn stands_nowhere(bytes: &[u8], text: &[u8]) -> bool
+    ensures { IsTrue result → StandsIn text.now bytes.now → ⊥ }
+{
+    // The pair of its rarest bytes mostly decides, and is made at once: a finder of the whole takes as long to make as to
+    // use it on 1 kB.
+    let Some(pair) = Finder::new(text) else {
+        return find(bytes, text).is_none();
+    };
+    match pair.find_prefilter(bytes) {
+        Some(place) => !bytes[place..].starts_with(text) && find(bytes, text).is_none(),
+        None => true,
+    }
 }
 
 /// Whether the bytes of a document have nowhere a key of one digit: as a rule those of an item of an array haven't the
@@ -110,26 +127,42 @@ fn lacks_key(bytes: &[u8], key: &str) -> bool
 fn lacks_name(bytes: &[u8], byte: u8) -> bool
     ensures { IsTrue result → StandsIn (byte ∷ 0 ∷ []) bytes.now → ⊥ }
 {
-    find(bytes, &[byte, 0]).is_none()
+    stands_nowhere(bytes, &[byte, 0])
 }
 
-/// Whether a key of one byte stands at most once among bytes, with the 00 behind it: where it is that of an element, it is
-/// no key inside of one. False says nothing.
+/// Whether a key of one byte, with the 00 behind it, stands at most once among an array's bytes behind its length: where
+/// it is that of an element, it is no key inside of one. False says nothing.
 pub(crate) fn stands_once(bytes: &[u8], key: &str) -> bool
-    ensures { IsTrue result → StandsOnce (key.now ++ 0 ∷ []) bytes.now }
+    ensures { IsTrue result → StandsOnce (key.now ++ 0 ∷ []) (drop 4 bytes.now) }
 {
+    let [_, _, _, _, elements @ ..] = bytes else {
+        return false;
+    };
     match key.as_bytes() {
-        [byte] => name_stands_once(bytes, *byte),
+        [byte] => name_stands_once(elements, *byte),
         _ => false,
     }
 }
 
 /// The same of the byte that is the key.
-fn name_stands_once(bytes: &[u8], byte: u8) -> bool
-    ensures { IsTrue result → StandsOnce (byte ∷ 0 ∷ []) bytes.now }
+fn name_stands_once(elements: &[u8], byte: u8) -> bool
+    ensures { IsTrue result → StandsOnce (byte ∷ 0 ∷ []) elements.now }
 {
-    match find(bytes, &[byte, 0]) {
-        Some(place) => lacks_name(&bytes[place + 1..], byte),
+    match place_of_name(elements, byte) {
+        Some(place) => lacks_name(&elements[place + 1..], byte),
         None => true,
     }
+}
+
+/// Where a key of one byte stands first, with the 00 behind it.
+fn place_of_name(elements: &[u8], byte: u8) -> Option<usize>
+    ensures { FindsNeedle elements.now (byte ∷ 0 ∷ []) 0 result }
+{
+    // A path mostly names the first place, whose key stands right behind the tag of the first element.
+    if let [_, first, end, ..] = elements {
+        if *first == byte && *end == 0 && byte != 0 {
+            return Some(1);
+        }
+    }
+    find(elements, &[byte, 0])
 }

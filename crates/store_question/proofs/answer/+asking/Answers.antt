@@ -1,4 +1,4 @@
-use Rattle.std.proofs.Common.{rules, ◌≡◌, ◌↔◌, ◌∙◌, ◌++◌, ◌∷◌, [], IsTrue, true, false, ℕ, List, Option, Some, None, String, is_some, refl, sym, ap, subst, arith}
+use Rattle.std.proofs.Common.{rules, ◌≡◌, ◌↔◌, ◌∙◌, ◌++◌, ◌∷◌, [], IsTrue, true, false, ℕ, List, Some, None, String, is_some, drop, refl, sym, ap, subst, arith}
 use Rattle.std.specs.Prelude.{option_and_then}
 use Rattle.std.proofs.lemmas.Int.{to_z-of_z}
 use mir.Syntax.{w64}
@@ -22,7 +22,7 @@ use Rattle.store_question.proofs.WalkLemmas.{any_start, any_here, any_passed, an
 use Rattle.bson_base.proofs.MemberLemmas.{found_levels}
 use Rattle.store_question.specs.Lacking.{StandsOnce}
 use Rattle.store_question.proofs.MemberLemmas.{found_back}
-use Rattle.store_question.proofs.OnceLemmas.{alone}
+use Rattle.store_question.proofs.OnceLemmas.{by_none, by_place}
 use Rattle.store_question.proofs.TellLemmas.{left_by, matched, one_has, over, told}
 use Rattle.store_question.proofs.answer.+asking.Goals as goal
 
@@ -263,14 +263,27 @@ goes_through-returns-then-eq t c =
     (λ b. through_here c.args.opens (Answers a) c.args.key.now (AtMember c.args.opens (Answers a) (path_of c.args.rest.now)) (AtPlace c.args.opens (Answers a) (path_of c.args.rest.now)) (parts_of c.args.element.now).key v c.in_ok-held.held b (c.in_ok-held.ensures a r v found) c.if-held.false named)
     (c.at_place.ensures a r v found)
 
-pub into_items-returns-in_err-absent : goal.into_items-returns-in_err-absent
-into_items-returns-in_err-absent t c = λ a r ms is back low. left_by _ _ _ c.from_residual.result c.from_residual.ensures.1 (c.in_err-absent.ensures a r None refl)
-
-pub into_items-returns-in-Some : goal.into_items-returns-in-Some
-into_items-returns-in-Some t c =
+pub into_items-returns-in_err-held : goal.into_items-returns-in_err-held
+into_items-returns-in_err-held t c =
     λ a r ms is back low.
     let there = c.in-Some.ensures ms is back in
+    left_by _ _ _ c.from_residual.result c.from_residual.ensures.1 (c.in_err-held.ensures a r there.0 there.2 (found_back c.args.key.now ms there.0 back there.1) (let fits = found_levels c.args.key.now ms there.0 there.1 in omega arith))
+
+pub into_items-returns-then-held : goal.into_items-returns-then-held
+into_items-returns-then-held t c =
+    λ a r ms is back low.
+    let there = c.in-Some.ensures ms is back in
+    let here = c.in_ok-held.ensures a r there.0 there.2 (found_back c.args.key.now ms there.0 back there.1) (let fits = found_levels c.args.key.now ms there.0 there.1 in omega arith) in
+    by_place c.args.opens (Answers a) c.args.key.now (AtMember c.args.opens (Answers a) (path_of c.args.rest.now)) (AtPlace c.args.opens (Answers a) (path_of c.args.rest.now)) ms there.0 there.1 (here.0 c.if-held.true)
+
+pub into_items-returns-in_err-absent : goal.into_items-returns-in_err-absent
+into_items-returns-in_err-absent t c = λ a r ms is back low. left_by _ _ _ c.from_residual-in_err-absent.result c.from_residual-in_err-absent.ensures.1 (c.in_err-absent.ensures a r None refl)
+
+pub into_items-returns-then-not-absent : goal.into_items-returns-then-not-absent
+into_items-returns-then-not-absent t c =
+    λ a r ms is back low.
+    let there = c.in-Some.ensures ms is back in
+    let here = c.in_ok-held.ensures a r there.0 there.2 (found_back c.args.key.now ms there.0 back there.1) (let fits = found_levels c.args.key.now ms there.0 there.1 in omega arith) in
     let silent : Answers a None → ⊥ = λ n. let yes = (c.in_ok-absent.ensures a r None refl).1 n in absurd cc in
-    told _ _ _ c.element_at_place.result
-    (λ b. alone c.args.opens (Answers a) silent c.args.key.now (AtMember c.args.opens (Answers a) (path_of c.args.rest.now)) (AtPlace c.args.opens (Answers a) (path_of c.args.rest.now)) b (bytes_of c.args.items) ms there.0 is (subst (λ (l : List ℕ). StandsOnce (c.args.key.now ++ 0 ∷ []) l) c.as_bytes.ensures (c.stands_once.ensures c.if-stands_once.true)) there.1)
-    (c.element_at_place.ensures a r there.0 there.2 (found_back c.args.key.now ms there.0 back there.1) (let fits = found_levels c.args.key.now ms there.0 there.1 in omega arith))
+    by_none c.args.opens (Answers a) silent c.args.key.now (AtMember c.args.opens (Answers a) (path_of c.args.rest.now)) (AtPlace c.args.opens (Answers a) (path_of c.args.rest.now)) (bytes_of c.args.items) ms there.0 is (subst (λ (l : List ℕ). StandsOnce (c.args.key.now ++ 0 ∷ []) (drop 4 l)) c.as_bytes.ensures (c.stands_once.ensures c.if-stands_once.true)) there.1
+    (λ h. let yes = here.1 h in absurd cc)
