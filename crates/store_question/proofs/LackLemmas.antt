@@ -1,5 +1,5 @@
 -- A document that has nowhere the text that a question asks for.
-use Rattle.std.proofs.Common.{◌≡◌, ◌⊎◌, inl, inr, ℕ, ◌+◌, ◌-◌, ◌<◌, List, ◌++◌, map, drop, length, get_or, true, false, IsTrue, Option, Some, None, is_some, sym, ap, ◌∙◌, subst, arith}
+use Rattle.std.proofs.Common.{◌≡◌, ◌⊎◌, inl, inr, ℕ, ◌+◌, ◌-◌, ◌<◌, List, ◌++◌, map, drop, length, get_or, Bool, true, false, IsTrue, Option, Some, None, is_some, sym, ap, ◌∙◌, subst, arith}
 use Rattle.std.specs.Prelude.{unwrap_or}
 use Rattle.std.proofs.lemmas.List.{get_or-append-add, get_or_append_left, length-append}
 use Rattle.memchr.specs.Find.{FindsNeedle, Nowhere, OccursAt}
@@ -55,11 +55,11 @@ pub text_beyond : (w u : Value) (t bytes : List ℕ) → text_in w ≡ Some t �
 text_beyond w u t bytes e none h = (t, text_equal w u t e h, none)
 
 -- no value along a path answers, if each that does is a text that stands nowhere
-pub none_along : (c : Comparison) (w : Value) (p : Path) (v : Value) (bytes : List ℕ) → bytes ≡ value_bytes v → ((u : Value) → IsTrue (lies_to c u w) → IsTextBeyond bytes u)
-    → Along true (λ o. IsTrue (lies_to c (unwrap_or o (scalar null)) w)) p (Some v) → ⊥
-none_along c w p v bytes is beyond h = by (along_met true (λ o. IsTrue (lies_to c (unwrap_or o (scalar null)) w)) p v h)
+pub none_along : (opens : Bool) (c : Comparison) (w : Value) (p : Path) (v : Value) (bytes : List ℕ) → bytes ≡ value_bytes v → ((u : Value) → IsTrue (lies_to c u w) → IsTextBeyond bytes u)
+    → Along opens (λ o. IsTrue (lies_to c (unwrap_or o (scalar null)) w)) p (Some v) → ⊥
+none_along opens c w p v bytes is beyond h = by (along_met opens (λ o. IsTrue (lies_to c (unwrap_or o (scalar null)) w)) p v h)
   where
-    by : Met true (λ o. IsTrue (lies_to c (unwrap_or o (scalar null)) w)) (value_bytes v) → ⊥
+    by : Met opens (λ o. IsTrue (lies_to c (unwrap_or o (scalar null)) w)) (value_bytes v) → ⊥
     by (inl n) = let b = beyond (scalar null) n in let e = b.1 in absurd cc
     by (inr (u, q, s)) = let b = beyond u q in b.2 (subst (λ (l : List ℕ). StandsIn b.0 l) (sym is) (along_bytes b.0 (value_bytes u) (value_bytes v) (text_there u b.0 b.1) s))
 

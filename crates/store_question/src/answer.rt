@@ -10,7 +10,7 @@ ghost use Rattle.store_model.specs.Filter.{pairs, under_places};
 ghost use Rattle.store_question.specs.Asked.{Asked, Askeds, Answers, AnswersAll, AnswersAny, AnyMember, HasItem, IntoDocument, AtEnd, AtMember, AtPlace, Along, Through, Under};
 ghost use Rattle.store_question.specs.Reads.{Found, FindsMember, HasPattern, OfElement, OfMembers, OneHasPattern, ReadEach, Reads, Shows, Tells, form_of, forms_of};
 
-use crate::lacking::{lacks, lacks_place, stands_once};
+use crate::lacking::{lacks, lacks_inside, lacks_place, stands_once};
 use crate::leaf::{begins, has_kind, has_size, items_in, leaves, lies, matches};
 use crate::question::Question;
 use bson_raw::{RawBsonRef, RawDocument, RawElement};
@@ -409,12 +409,31 @@ fn at_place(
         return fits(alloc, Some(value), question);
     };
     if value.as_document().is_some() {
-        return under(alloc, value, key.as_str(), rest, question, opens);
+        return under_place(alloc, value, key.as_str(), rest, question, opens);
     }
     match items_in(Some(value)) {
         Some(items) => into_items(alloc, items, key.as_str(), rest, question, opens),
         None => Ok(false),
     }
+}
+
+/// The same as `under`, of an item that was reached by its place: its bytes may tell that it doesn't answer.
+#[cycle(asking)]
+fn under_place(
+    alloc: Global,
+    value: RawBsonRef<'_>,
+    key: &str,
+    rest: &[String],
+    question: &Question,
+    opens: bool,
+) -> Result<bool, AllocError>
+    ensures { (t : Asked) → Reads (form_of question.now) t → (v : Value) → Found value.entry v
+        → Tells (HasPattern (form_of question.now)) result (Under opens (Answers t) key.now (AtMember opens (Answers t) (path_of rest.now)) (pairs v)) }
+{
+    if lacks_inside(value, question) {
+        return Ok(false);
+    }
+    under(alloc, value, key, rest, question, opens)
 }
 
 /// What a value has under a key: a document under its key, an array under the key of a place ("0", "1" and so on), any

@@ -1,6 +1,6 @@
 //! Documents that can't answer, told by a search of their bytes.
 
-ghost use Rattle.std.specs.Prelude.{◌≡◌, ◌++◌, ◌∷◌, [], IsTrue, None, Some, drop, map, true};
+ghost use Rattle.std.specs.Prelude.{◌≡◌, ◌++◌, ◌∷◌, [], Bool, IsTrue, None, Some, drop, map};
 ghost use Rattle.bson_base.specs.Value.{Members, Value, document as tree, look_up};
 ghost use Rattle.bson_bytes.specs.Encode.{encode, value_bytes};
 ghost use Rattle.bson_raw.specs.Convert.{SpellsRawValue};
@@ -53,10 +53,21 @@ fn lacks_at(bytes: &[u8], question: &Question) -> bool
     }
 }
 
+/// The same of an item of an array and a path from it.
+pub(crate) fn lacks_inside(item: RawBsonRef<'_>, question: &Question) -> bool
+    ensures { (t : Asked) → Reads (form_of question.now) t → (opens : Bool) (p : Path) (v : Value) → Found item.entry v
+        → IsTrue result → Along opens (Answers t) p (Some v) → ⊥ }
+{
+    match item.as_document() {
+        Some(document) => lacks_value(document.as_bytes(), question),
+        None => false,
+    }
+}
+
 /// Whether the bytes of a value have nowhere a text to which what is asked for is equal.
 fn lacks_value(bytes: &[u8], question: &Question) -> bool
-    ensures { (t : Asked) → Reads (form_of question.now) t → (p : Path) (v : Value) → bytes.now ≡ value_bytes v
-        → IsTrue result → Along true (Answers t) p (Some v) → ⊥ }
+    ensures { (t : Asked) → Reads (form_of question.now) t → (opens : Bool) (p : Path) (v : Value) → bytes.now ≡ value_bytes v
+        → IsTrue result → Along opens (Answers t) p (Some v) → ⊥ }
 {
     match question {
         Question::Compare(comparison, other) => {

@@ -103,7 +103,7 @@ pub at_place-returns-then-is_some : goal.at_place-returns-then-is_some
 at_place-returns-then-is_some t c =
     λ a r v f.
     let d = is_document c.args.value v c.is_some.result (c.is_some.ensures ∙ ap is_some c.as_document.ensures) c.if-is_some.true f.encodes in
-    told _ _ _ c.under.result (λ b. place_document c.args.opens (Answers a) b c.args.path.now c.in-Some.key.now c.in-Some.rest.now c.as_str.result.now v c.in-Some.ensures.cases.0 c.as_str.ensures.value d.0 d.1) (c.under.ensures a r v f)
+    told _ _ _ c.under_place.result (λ b. place_document c.args.opens (Answers a) b c.args.path.now c.in-Some.key.now c.in-Some.rest.now c.as_str.result.now v c.in-Some.ensures.cases.0 c.as_str.ensures.value d.0 d.1) (c.under_place.ensures a r v f)
 
 pub at_place-returns-in-Some-items_in : goal.at_place-returns-in-Some-items_in
 at_place-returns-in-Some-items_in t c =
@@ -287,3 +287,6 @@ into_items-returns-then-not-absent t c =
     let silent : Answers a None → ⊥ = λ n. let yes = (c.in_ok-absent.ensures a r None refl).1 n in absurd cc in
     by_none c.args.opens (Answers a) silent c.args.key.now (AtMember c.args.opens (Answers a) (path_of c.args.rest.now)) (AtPlace c.args.opens (Answers a) (path_of c.args.rest.now)) (bytes_of c.args.items) ms there.0 is (subst (λ (l : List ℕ). StandsOnce (c.args.key.now ++ 0 ∷ []) (drop 4 l)) c.as_bytes.ensures (c.stands_once.ensures c.if-stands_once.true)) there.1
     (λ h. let yes = here.1 h in absurd cc)
+
+pub under_place-returns-then-lacks_inside : goal.under_place-returns-then-lacks_inside
+under_place-returns-then-lacks_inside t c = λ a r v f. (λ u. absurd cc, λ u. absurd (c.lacks_inside.ensures a r c.args.opens (c.args.key.now ∷ path_of c.args.rest.now) v f c.if-lacks_inside.true u))

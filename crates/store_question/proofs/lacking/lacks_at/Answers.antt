@@ -1,4 +1,4 @@
-use Rattle.std.proofs.Common.{rules, ◌≡◌, Some, sym, subst}
+use Rattle.std.proofs.Common.{rules, ◌≡◌, Some, true, sym, subst}
 use Rattle.bson_base.specs.Value.{document}
 use Rattle.store_question.specs.Filters.{path_of}
 use Rattle.store_question.specs.Asked.{Answers, Asked}
@@ -11,4 +11,4 @@ returns-in-At c = λ t r d is yes a.
     let same : form_of c.args.question.now ≡ at_form (path_of c.in-At.field-0.items) (form_of c.in-At.inner.value) = rw c.in-At.is (search (rules, the_lemmas)) in
     let p = subst (λ (f : Form). Reads f t) same r in
     let inner = subst (λ (q : Question). Reads (form_of q) p.0) (sym c.deref.ensures) p.2 in
-    c.lacks_value.ensures p.0 inner (path_of c.in-At.field-0.items) (document d) is yes (subst (λ (x : Asked). Answers x (Some (document d))) p.1 a)
+    c.lacks_value.ensures p.0 inner true (path_of c.in-At.field-0.items) (document d) is yes (subst (λ (x : Asked). Answers x (Some (document d))) p.1 a)
