@@ -10,7 +10,7 @@ with some these and all below them. N jobs are given out, as many as there are p
 way to the end comes first, and is given two of them, as many as `rt ci` gives a crate that it proves alone; the others are given one,
 and wait while little memory is free. A crate that changes meanwhile is proved as it is when its turn comes. What was said of each is in
 target/ahead/CRATE.log. `rt` keeps 10 GB at the most, and a run drops at its end what it hasn't used, longest unused first: where all
-crates together take more, the gate proves again what went so.
+crates together take more, the gate proves again what went so. A kit whose `rt ci` takes no names keeps nothing, and this says so.
 
 The second line proves nothing: it puts the newest library that is kept of each crate into this checkout, where tools/wrong_bodies.py and
 tools/check_over.py look for it.
@@ -66,6 +66,12 @@ def ways(below):
     for name in reversed(list(below)):
         found[name] = size(name) + max((found[each] for each in found if name in below[each]), default=0)
     return found
+
+
+def takes_names():
+    """Whether `rt ci` of this kit takes the name of a crate: one that doesn't answers with how rt is called, whatever the name."""
+    said = subprocess.run(["rt", "ci", "no_crate"], cwd=ROOT, stdin=subprocess.DEVNULL, capture_output=True, text=True, check=False)
+    return not (said.stdout + said.stderr).startswith("usage:")
 
 
 def start(name, jobs):
@@ -176,6 +182,8 @@ def main():
     unknown = [name for name in words.crates if name not in below]
     if unknown:
         sys.exit(f"prove_ahead.py: crates.txt has no {unknown[0]}")
+    if not takes_names():
+        sys.exit("prove_ahead.py: `rt ci` of this kit takes no names of crates, and keeps nothing for the gate")
     return Ahead(below, with_below(below, words.crates or below), words.at_once).run()
 
 

@@ -43,7 +43,7 @@ pub use document::RawDocument;
 pub use document_buf::RawDocumentBuf;
 pub use element::RawElement;
 pub use iter::Iter;
-pub use raw_iter::RawIter;
+pub use raw_iter::{RawIter, first_element};
 pub use read_error::ReadError;
 pub use reader::{from_reader, next_document, read_bytes};
 pub use write_error::WriteError;

@@ -1,6 +1,9 @@
 //! The walk over the elements of a document.
 
 ghost use Rattle.std.specs.Iterator.{at_most};
+ghost use Rattle.std.specs.Prelude.{◌≡◌, MatchOption};
+ghost use Rattle.bson_frame.specs.Frame.{HasNoFrame, IsFirstFrame};
+ghost use Rattle.bson_raw.specs.View.{parts_of};
 
 use crate::element::RawElement;
 use bson_frame::{Error, frame};
@@ -41,5 +44,17 @@ impl<'a> Iterator for RawIter<'a> {
                 Some(Err(Error::new(None, kind)))
             }
         }
+    }
+}
+
+/// The first element of bytes, and what is behind it, if they begin with one (bsonspec.org 1.1, "element"). Takes no memory.
+pub fn first_element(bytes: &[u8]) -> Option<(RawElement<'_>, &[u8])>
+    ensures { MatchOption result (HasNoFrame bytes.now)
+        (λ r. IsFirstFrame bytes.now (parts_of r.0) r.1.now × (r.0.frame.rest.now ≡ r.1.now)) }
+{
+    bson_frame::laws::payload_by_itself();
+    match frame(bytes) {
+        Ok(frame) => Some((RawElement { frame }, frame.rest)),
+        Err(_) => None,
     }
 }

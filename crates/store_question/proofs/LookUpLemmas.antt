@@ -103,9 +103,17 @@ module _ (key : List ℕ) (whole : Members) (s t : Option (List ℕ)) (met : ℕ
   pub all_met : met ≡ place_among key whole
   all_met = let n = p.place ∙ ap (λ (ms : Members). met + place_among key ms) over in omega (arith, n)
 
+-- a step by the first frame
+pub stepped : (bytes behind : List ℕ) (x : RawElement) → IsFirstFrame bytes (parts_of x) behind → x.frame.rest.now ≡ behind → steps_from (Some bytes) (Some (Ok x)) (Some behind)
+stepped bytes behind x first same = (subst (λ (l : List ℕ). IsFirstFrame bytes (parts_of x) l) (sym same) first, ap (λ (l : List ℕ). Some l) (sym same))
+
+-- where no element is left
+pub beyond : (key bytes : List ℕ) (whole : Members) (met : ℕ) → HasNoFrame bytes → Progress key whole (Some bytes) met → look_up key whole ≡ None
+beyond key bytes whole met none p = p.found ∙ ap (look_up key) (none_left bytes p.rest (0 ∷ []) p.ahead p.back none)
+
 -- ---- how many bytes there are
 
-frame_room : (bytes : List ℕ) (e : Element) (rest : List ℕ) → IsFirstFrame bytes e rest → 2 + length e.payload + length rest ≤ length bytes
+pub frame_room : (bytes : List ℕ) (e : Element) (rest : List ℕ) → IsFirstFrame bytes e rest → 2 + length e.payload + length rest ≤ length bytes
 frame_room bytes e rest f = omega (arith, simp length-append at (ap length f.parts))
 
 pub step_room : (s t : Option (List ℕ)) (x : RawElement) → steps_from s (Some (Ok x)) t → 2 + length (parts_of x).payload + left_length t ≤ left_length s

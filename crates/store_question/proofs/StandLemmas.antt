@@ -8,7 +8,7 @@ use Rattle.bson_bytes.specs.Encode.{cstring_of, encode, frame_of, le32, members_
 use Rattle.store_question.proofs.MemberLemmas.{array_bytes_pairs}
 use Rattle.store_model.specs.Filter.{under_places, Path}
 use Rattle.store_question.specs.Asked.{text_in, AnyMember, AtEnd, AtMember, AtPlace, Along, HasItem, IntoDocument, Through, Under}
-use Rattle.store_question.specs.Lacking.{StandsIn}
+use Rattle.store_question.specs.Lacking.{NamedIn, StandsIn}
 
 pub behind : (t xs ys : List ℕ) → StandsIn t ys → StandsIn t (xs ++ ys)
 behind t xs ys (a, b, e) = (xs ++ a, b, ap (λ (l : List ℕ). xs ++ l) e ∙ sym (append_assoc xs a (t ++ b)))
@@ -55,29 +55,31 @@ found_stands k (member l w ms) v e = by (found_stands k ms v) (bytes_eq k l) e
     by more true e = let same : w ≡ v = cc in subst (λ (x : Value). StandsIn (value_bytes x) (members_bytes (member l w ms))) same (first_member l w ms)
     by more false e = other_member (value_bytes v) l w ms (more e)
 
--- each key stands among the bytes, with its 00
-pub key_first : (k : List ℕ) (v : Value) (ms : Members) → StandsIn (k ++ 0 ∷ []) (members_bytes (member k v ms))
+-- each key stands among the bytes behind a tag, with its 00
+pub key_first : (k : List ℕ) (v : Value) (ms : Members) → NamedIn (k ++ 0 ∷ []) (members_bytes (member k v ms))
 unfolding cstring_of
-key_first k v ms = (tag_byte (value_kind v) ∷ [], value_bytes v ++ members_bytes ms, refl)
+key_first k v ms = (value_kind v, ([], value_bytes v ++ members_bytes ms, refl))
 
-pub key_stands : (k : List ℕ) (ms : Members) (v : Value) → look_up k ms ≡ Some v → StandsIn (k ++ 0 ∷ []) (members_bytes ms)
+pub key_stands : (k : List ℕ) (ms : Members) (v : Value) → look_up k ms ≡ Some v → NamedIn (k ++ 0 ∷ []) (members_bytes ms)
 key_stands k no_members v e = absurd cc
 key_stands k (member l w ms) v e = by (key_stands k ms v) (bytes_eq k l) refl e
   where
-    by : (look_up k ms ≡ Some v → StandsIn (k ++ 0 ∷ []) (members_bytes ms)) → (b : Bool) → bytes_eq k l ≡ b → cond b (Some w) (look_up k ms) ≡ Some v → StandsIn (k ++ 0 ∷ []) (members_bytes (member l w ms))
-    by more true s e = subst (λ (x : List ℕ). StandsIn (x ++ 0 ∷ []) (members_bytes (member l w ms))) (sym (equal_keys k l s)) (key_first l w ms)
-    by more false s e = other_member (k ++ 0 ∷ []) l w ms (more e)
+    by : (look_up k ms ≡ Some v → NamedIn (k ++ 0 ∷ []) (members_bytes ms)) → (b : Bool) → bytes_eq k l ≡ b → cond b (Some w) (look_up k ms) ≡ Some v → NamedIn (k ++ 0 ∷ []) (members_bytes (member l w ms))
+    by more true s e = subst (λ (x : List ℕ). NamedIn (x ++ 0 ∷ []) (members_bytes (member l w ms))) (sym (equal_keys k l s)) (key_first l w ms)
+    by more false s e = let m = more e in (m.0, other_member (tag_byte m.0 ∷ (k ++ 0 ∷ [])) l w ms m.1)
 
--- a key that stands nowhere among the bytes of a document is none of its keys
-pub no_key : (k bytes : List ℕ) (ms : Members) → bytes ≡ encode ms → (StandsIn (k ++ 0 ∷ []) bytes → ⊥) → look_up k ms ≡ None
+-- a key that stands nowhere so among the bytes of a document is none of its keys
+pub no_key : (k bytes : List ℕ) (ms : Members) → bytes ≡ encode ms → (NamedIn (k ++ 0 ∷ []) bytes → ⊥) → look_up k ms ≡ None
 no_key k bytes ms is none = by (look_up k ms) refl
   where
     by : (o : Option Value) → look_up k ms ≡ o → look_up k ms ≡ None
     by None e = e
-    by (Some v) e = absurd (none (subst (λ (l : List ℕ). StandsIn (k ++ 0 ∷ []) l) (sym is) (framed (k ++ 0 ∷ []) (members_bytes ms) (key_stands k ms v e))))
+    by (Some v) e =
+        let m = key_stands k ms v e in
+        absurd (none (m.0, subst (λ (l : List ℕ). StandsIn (tag_byte m.0 ∷ (k ++ 0 ∷ [])) l) (sym is) (framed (tag_byte m.0 ∷ (k ++ 0 ∷ [])) (members_bytes ms) m.1)))
 
 -- the same of a key of one byte
-pub no_short_key : (xs k bytes : List ℕ) (d : ℕ) (ms : Members) → xs ≡ k → 1 ≤ length xs → length xs < 2 → bytes ≡ encode ms → (StandsIn (get_or xs 0 d ∷ 0 ∷ []) bytes → ⊥) → look_up k ms ≡ None
+pub no_short_key : (xs k bytes : List ℕ) (d : ℕ) (ms : Members) → xs ≡ k → 1 ≤ length xs → length xs < 2 → bytes ≡ encode ms → (NamedIn (get_or xs 0 d ∷ 0 ∷ []) bytes → ⊥) → look_up k ms ≡ None
 no_short_key [] k bytes d ms e some few is none = absurd (omega (arith, some))
 no_short_key (x ∷ []) k bytes d ms e some few is none = subst (λ (l : List ℕ). look_up l ms ≡ None) e (no_key (x ∷ []) bytes ms is none)
 no_short_key (x ∷ y ∷ ys) k bytes d ms e some few is none = absurd (omega (arith, few))

@@ -13,7 +13,7 @@ ghost use Rattle.store_question.specs.Reads.{Found, FindsMember, HasPattern, OfE
 use crate::lacking::{lacks, lacks_inside, lacks_place, stands_once};
 use crate::leaf::{begins, has_kind, has_size, items_in, leaves, lies, matches};
 use crate::question::Question;
-use bson_raw::{RawBsonRef, RawDocument, RawElement};
+use bson_raw::{RawBsonRef, RawDocument, RawElement, first_element};
 use std::alloc::{AllocError, Global};
 
 /// Whether a document answers a question. Has a result for any bytes, and takes memory only for a question that has a
@@ -464,18 +464,20 @@ fn find<'a>(document: RawDocument<'a>, key: &str) -> Option<RawElement<'a>>
     ensures { (ms : Members) → bytes_of document.entry ≡ encode ms → ComeBack ms
         → FindsElement result (look_up key.now ms) }
 {
-    for item in document.iter_elements() {
-        let Ok(element) = item else {
-            return None;
-        };
+    let [_, _, _, _, elements @ ..] = document.as_bytes() else {
+        return None;
+    };
+    let mut rest = elements;
+    while let Some((element, behind)) = first_element(rest) {
         if key == element.key() {
             return Some(element);
         }
+        rest = behind;
     }
     None
 }
 
-/// The element under a key of one digit. None says nothing of other keys.
+/// The element under a key of one digit. None says nothing.
 fn item_at<'a>(items: RawDocument<'a>, key: &str) -> Option<RawElement<'a>>
     ensures { (ms : Members) → bytes_of items.entry ≡ encode ms → ComeBack ms
         → IfSome result (λ e. FindsElement (Some e) (look_up key.now ms)) }

@@ -8,13 +8,14 @@ ghost use Rattle.bson_raw.specs.Raw.{ref_value};
 ghost use Rattle.memchr.specs.Find.{FindsNeedle};
 ghost use Rattle.store_model.specs.Filter.{Path, pairs};
 ghost use Rattle.store_question.specs.Asked.{Along, Answers, AnswersAll, Asked, Askeds, lies_to};
-ghost use Rattle.store_question.specs.Lacking.{IsTextBeyond, StandsIn, StandsOnce};
+ghost use Rattle.store_question.specs.Lacking.{IsTextBeyond, NamedIn, NamedOnce, StandsIn};
 ghost use Rattle.store_question.specs.Reads.{Found, ReadEach, Reads, form_of, forms_of};
 
 use crate::leaf::text_of;
 use crate::question::{Comparison, Question};
+use bson_base::ElementType;
 use bson_raw::RawBsonRef;
-use memchr::arch::all::packedpair::Finder;
+use memchr::arch::all::packedpair::{Finder, Pair};
 use memchr::memmem::find;
 
 /// Whether the bytes of a document have nowhere a text that the question asks for, so that the document can't answer: a
@@ -42,13 +43,18 @@ fn lacks_one(bytes: &[u8], list: &[Question]) -> bool
     false
 }
 
-/// The same of a question along a path.
+/// The same of a question along a path. Of one that names a place it tells nothing: there the item is searched alone.
 fn lacks_at(bytes: &[u8], question: &Question) -> bool
     ensures { (t : Asked) → Reads (form_of question.now) t → (d : Members) → bytes.now ≡ encode d
         → IsTrue result → Answers t (Some (tree d)) → ⊥ }
 {
     match question {
-        Question::At(_, inner) => lacks_value(bytes, inner),
+        Question::At(path, inner) => {
+            let names_place = path
+                .iter()
+                .any(|key| matches!(key.as_bytes(), [b'0'..=b'9']));
+            !names_place && lacks_value(bytes, inner)
+        }
         _ => false,
     }
 }
@@ -134,17 +140,30 @@ fn lacks_key(bytes: &[u8], key: &str) -> bool
     }
 }
 
-/// Whether a key of this one byte stands nowhere among bytes, with the 00 behind it.
+/// Whether a key of this one byte stands nowhere among bytes, behind a tag and with the 00 behind it. A text that ends in
+/// the byte has the 00 as well, but hardly ever a tag in front of it.
 fn lacks_name(bytes: &[u8], byte: u8) -> bool
-    ensures { IsTrue result → StandsIn (byte ∷ 0 ∷ []) bytes.now → ⊥ }
+    ensures { IsTrue result → NamedIn (byte ∷ 0 ∷ []) bytes.now → ⊥ }
 {
-    stands_nowhere(bytes, &[byte, 0])
+    let name = [byte, 0];
+    let Some(indices) = Pair::with_indices(&name, 0, 1) else {
+        return false;
+    };
+    let pair = Finder::with_pair(&name, indices);
+    let mut rest = bytes;
+    while let Some(place) = pair.find_prefilter(rest) {
+        if place == 0 || ElementType::from(rest[place - 1]).is_some() {
+            return false;
+        }
+        rest = &rest[place + 1..];
+    }
+    true
 }
 
-/// Whether a key of one byte, with the 00 behind it, stands at most once among an array's bytes behind its length: where
-/// it is that of an element, it is no key inside of one. False says nothing.
+/// Whether a key of one byte, behind a tag and with the 00 behind it, stands at most once among an array's bytes behind its
+/// length: where it is that of an element, it is no key inside of one. False says nothing.
 pub(crate) fn stands_once(bytes: &[u8], key: &str) -> bool
-    ensures { IsTrue result → StandsOnce (key.now ++ 0 ∷ []) (drop 4 bytes.now) }
+    ensures { IsTrue result → NamedOnce (key.now ++ 0 ∷ []) (drop 4 bytes.now) }
 {
     let [_, _, _, _, elements @ ..] = bytes else {
         return false;
@@ -157,7 +176,7 @@ pub(crate) fn stands_once(bytes: &[u8], key: &str) -> bool
 
 /// The same of the byte that is the key.
 fn name_stands_once(elements: &[u8], byte: u8) -> bool
-    ensures { IsTrue result → StandsOnce (byte ∷ 0 ∷ []) elements.now }
+    ensures { IsTrue result → NamedOnce (byte ∷ 0 ∷ []) elements.now }
 {
     match place_of_name(elements, byte) {
         Some(place) => lacks_name(&elements[place + 1..], byte),

@@ -20,7 +20,7 @@ use Rattle.store_question.specs.Patterns.{IsReadFrom, matches_so}
 use Rattle.store_question.proofs.AskLemmas.{answered, all_broken, all_on, all_end, all_refused, some_found, some_on, some_end, some_refused, not_told, has_items, end_item, end_itself, end_whole, is_document, no_document, member_document, member_array, member_other, place_document, place_array, place_other, into_it, through_here}
 use Rattle.store_question.proofs.WalkLemmas.{any_start, any_here, any_passed, any_fault, any_end, any_refused}
 use Rattle.bson_base.proofs.MemberLemmas.{found_levels}
-use Rattle.store_question.specs.Lacking.{StandsOnce}
+use Rattle.store_question.specs.Lacking.{NamedOnce}
 use Rattle.store_question.proofs.MemberLemmas.{found_back}
 use Rattle.store_question.proofs.OnceLemmas.{by_none, by_place}
 use Rattle.store_question.proofs.TellLemmas.{left_by, matched, one_has, over, told}
@@ -285,7 +285,7 @@ into_items-returns-then-not-absent t c =
     let there = c.in-Some.ensures ms is back in
     let here = c.in_ok-held.ensures a r there.0 there.2 (found_back c.args.key.now ms there.0 back there.1) (let fits = found_levels c.args.key.now ms there.0 there.1 in omega arith) in
     let silent : Answers a None → ⊥ = λ n. let yes = (c.in_ok-absent.ensures a r None refl).1 n in absurd cc in
-    by_none c.args.opens (Answers a) silent c.args.key.now (AtMember c.args.opens (Answers a) (path_of c.args.rest.now)) (AtPlace c.args.opens (Answers a) (path_of c.args.rest.now)) (bytes_of c.args.items) ms there.0 is (subst (λ (l : List ℕ). StandsOnce (c.args.key.now ++ 0 ∷ []) (drop 4 l)) c.as_bytes.ensures (c.stands_once.ensures c.if-stands_once.true)) there.1
+    by_none c.args.opens (Answers a) silent c.args.key.now (AtMember c.args.opens (Answers a) (path_of c.args.rest.now)) (AtPlace c.args.opens (Answers a) (path_of c.args.rest.now)) (bytes_of c.args.items) ms there.0 is (subst (λ (l : List ℕ). NamedOnce (c.args.key.now ++ 0 ∷ []) (drop 4 l)) c.as_bytes.ensures (c.stands_once.ensures c.if-stands_once.true)) there.1
     (λ h. let yes = here.1 h in absurd cc)
 
 pub under_place-returns-then-lacks_inside : goal.under_place-returns-then-lacks_inside
