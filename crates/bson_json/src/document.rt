@@ -231,11 +231,12 @@ fn print_scoped<'a>(
 /// Puts the text of a document in Extended JSON in the place of what `text` held, whose room is used again: the text
 /// that `write` writes of its tree. `bytes` are those of the document; no tree is made. True: the bytes spell a document
 /// in which no key occurs twice and all options are in order, so that nothing of it is settled. False decides nothing:
-/// it is also returned for a regular expression, a code with scope and over 96 keys of a document, and in a store.
+/// it is also returned for a regular expression, a code with scope and over 96 keys of a document, in a store, and if
+/// the list of the keys that were met can't grow: the text is whole.
 ///
 /// `Unseen` if the bytes have a fault or more than 100 levels, or if a document below the top has a reserved key such
 /// as `$oid`, and only then.
-/// `Memory` if a growth was refused. What `text` holds then isn't said.
+/// `Memory` if a growth was refused that the text needs. What `text` holds then isn't said.
 pub fn write_settled(
     alloc: Global,
     bytes: &[u8],
@@ -271,7 +272,7 @@ pub fn write_settled(
 ///
 /// `Unseen` if the bytes have a fault or more than 100 levels, or if a document below the top has a reserved key such
 /// as `$oid`, and only then.
-/// `Memory` if a growth was refused. What `text` holds then isn't said.
+/// `Memory` if a growth was refused that the text needs. What `text` holds then isn't said.
 pub fn write_raw(
     alloc: Global,
     bytes: &[u8],
