@@ -73,17 +73,24 @@ def with_meanings(file, found):
             yield Item(file, frozenset(names) - PLAIN, "\n".join([text, *sorted(means)]))
 
 
+@functools.cache
+def read(file, text):
+    """A file without comments, and its items; two states have most files in common, and each text is read once."""
+    plain = plain_rust(text) if file.endswith(".rt") else plain_antt(text)
+    return plain, tuple(with_meanings(file, items_of_file(file, text)))
+
+
 class Texts:
     """The texts of a crate without comments: their sum, their words, and the items that others can see, each with how often it is there."""
 
     def __init__(self, folder):
         self.items, whole, total = collections.Counter(), [], hashlib.sha256()
         for file in sorted(file for part in PARTS for file in (folder / part).glob("**/*") if file.suffix in (".rt", ".antt")):
-            name, text = file.relative_to(folder).as_posix(), file.read_text(encoding="utf-8")
-            plain = plain_rust(text) if file.suffix == ".rt" else plain_antt(text)
+            name = file.relative_to(folder).as_posix()
+            plain, items = read(name, file.read_text(encoding="utf-8"))
             total.update(f"{name}\0{plain}\0".encode())
             whole.append(plain)
-            self.items.update(with_meanings(name, items_of_file(name, text)))
+            self.items.update(items)
         self.total, self.whole = total.hexdigest(), "\n".join(whole)
         self.words = words(self.whole)
 

@@ -135,17 +135,14 @@ class Sources:
     """The texts of crates with bodies that never return, written once each."""
 
     def __init__(self, room):
-        self.writer, self.lock, self.room = stand_ins.StandIns(room / "stand_ins_of", None), threading.Lock(), room
-        self.written = set()
+        self.writer, self.room = stand_ins.StandIns(room / "whole", None), room
+        (room / "sources").mkdir()
 
     def write(self, names):
-        with self.lock:
-            for name in names:
-                if name not in self.written:
-                    self.writer.write(name)
-                    (self.room / "sources").mkdir(exist_ok=True)
-                    (self.room / "stand_ins_of" / "stand_ins" / name).rename(self.room / "sources" / name)
-                    self.written.add(name)
+        for name in names:
+            if not (self.room / "sources" / name).exists():
+                self.writer.write(name)
+                (self.room / "whole" / "stand_ins" / name).rename(self.room / "sources" / name)
 
 
 def parts_of(name):
@@ -173,6 +170,8 @@ class Proofs:
 
     def prepare(self, base):
         """Finds libraries, and how each crate is checked."""
+        # (its first call handles a signal, which only the main thread may)
+        self.rt.rtlib.guarded()
         self.crates, self.sources, self.built, self.seen = crates_at(self.rt, ROOT), Sources(self.room), None, {}
         with tempfile.TemporaryDirectory() as others:
             for number, tree in enumerate([base, *[tree for tree in proved.states(others) if tree != base]]):
@@ -181,12 +180,13 @@ class Proofs:
                 built = Built(self.rt, tree, folder)
                 if self.built is None or len(built.names) > len(self.built.names):
                     self.built, self.seen = built, changed.changes(self.new, changed.State(folder))
-        self.ways = {name: Way(self.new, name, self.built, self.seen_below(name)) for name in self.named}
+        wrong = [name for name in self.new.needs if name in self.named and self.changes[name].own or changed_wrong(base, name)]
+        (self.room / "wrong").write_text("".join(f"{name}\n" for name in wrong if list((ROOT / "crates" / name / "wrong").glob("*"))), encoding="utf-8")
+        self.ways = {name: Way(self.new, name, self.built, self.seen_below(name)) for name in dict.fromkeys([*self.named, *wrong])}
         (self.room / "words").mkdir()
         for name, way in self.ways.items():
             (self.room / "words" / f"{name}.json").write_text(json.dumps(way.words(self.room)), encoding="utf-8")
-        wrong = [name for name in self.new.needs if name in self.named and self.changes[name].own or changed_wrong(base, name)]
-        (self.room / "wrong").write_text("".join(f"{name}\n" for name in wrong), encoding="utf-8")
+            self.sources.write(way.sources)
 
     def seen_below(self, name):
         """The crates below whose libraries don't serve, as the crate sees something that changed in them."""
@@ -216,7 +216,6 @@ class Proofs:
     def prove(self, name):
         way, began = self.ways[name], time.time()
         with self.in_turn(way.kind):
-            self.sources.write(way.sources)
             with tempfile.TemporaryFile("w+", errors="replace") as said:
                 crate = copy.copy(self.crates[name])
                 crate.out = said
