@@ -10,7 +10,8 @@ are. Each is checked by the prover whole, and its texts are tested as `rt ci` te
   - else over sources: of each crate below that has no such library the items, clauses, definitions and lemmas, with every body a call that
     never returns (tools/stand_ins.py). A function of a crate below stands by its contract then, as it does over a library.
 
-So no library is built. What this leaves to a whole run is listed in docs/development/PROVING.md. A line says for each crate why it is
+So no library is built. What was proved so is noted beside the record of tools/proved.py, by a sum of all that the check reads, and isn't
+proved again on this machine while that stays the same. What this leaves to a whole run is listed in docs/development/PROVING.md. A line says for each crate why it is
 proved, how, and what it took. --list only says why. FOLDER gets, for each crate, the words with which the prover is called
 (words/CRATE.json), for tools/wrong_bodies.py, and the names of the crates whose wrong bodies are to be tried (wrong).
 """
@@ -18,6 +19,7 @@ import argparse
 import concurrent.futures
 import contextlib
 import copy
+import hashlib
 import importlib.machinery
 import importlib.util
 import io
@@ -86,6 +88,7 @@ class Built:
     def take(self, rt, crates):
         """Takes each library of the store that is of these very texts, over those that were taken."""
         kept, taken = rt.Kept(list(crates.values())), set()
+        self.sums = kept.rlibs
         for name, crate in crates.items():
             if crate.is_program or not taken.issuperset(low.name for low in crate.below()):
                 continue
@@ -111,6 +114,11 @@ class Way:
         self.sources = [low for low in below if low in unfit]
         self.kind = "sources" if self.sources else "libraries"
 
+    def key(self, rt, crate, room):
+        """A sum of all that the check of the crate reads."""
+        below = [(low, sum_of_texts(room / "sources" / low) if low in self.sources else self.built.sums[low]) for low in self.state.below(self.name)]
+        return hashlib.sha256(repr((rt.own_sum(crate), below)).encode()).hexdigest()
+
     def words(self, room):
         """The words behind `rattle check`, but for what is asked for."""
         needs, own = self.state.needs, self.state.below(self.name)
@@ -129,6 +137,13 @@ class Way:
             words += ["-L", f"dependency={self.built.rlib(low).parent}"]
         words += ["--antt-project", f"{KIT}/rattle/logic/antt-project.json", "--logic-built", f"{KIT}/logic_built"]
         return [*words, "--jobs", "1"]
+
+
+def sum_of_texts(folder):
+    total = hashlib.sha256()
+    for file in sorted(file for file in folder.glob("**/*") if file.is_file()):
+        total.update(f"{file.relative_to(folder)}\n".encode() + file.read_bytes())
+    return total.hexdigest()
 
 
 class Sources:
@@ -215,6 +230,10 @@ class Proofs:
 
     def prove(self, name):
         way, began = self.ways[name], time.time()
+        key = way.key(self.rt, self.crates[name], self.room)
+        if proved.has_verdict(key):
+            say(f"{name}: an earlier run on this machine proved the same over the same")
+            return True
         with self.in_turn(way.kind):
             with tempfile.TemporaryFile("w+", errors="replace") as said:
                 crate = copy.copy(self.crates[name])
@@ -227,6 +246,8 @@ class Proofs:
         say(f"{name}: {'NOT PROVED: ' + fault if fault else 'proved'} {how}, {functions} functions, {time.time() - began:.0f} s")
         if fault:
             say("\n".join(text.rstrip().split("\n")[-LAST:]))
+        elif way.key(self.rt, self.crates[name], self.room) == key:
+            proved.note_verdict(key)
         return not fault
 
     def fault_of_text(self, crate):

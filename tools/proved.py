@@ -124,10 +124,33 @@ def base(room):
     print(tree)
 
 
+def verdict(key):
+    return RECORD / "verdicts" / key
+
+
+def has_verdict(key):
+    """Whether a check that read all that this sum is of was noted as one that proves its crate."""
+    return RECORD.is_dir() and is_ours(RECORD) and verdict(key).is_file()
+
+
+def note_verdict(key):
+    if make_record():
+        verdict(key).parent.mkdir(exist_ok=True)
+        verdict(key).touch()
+
+
+def make_record():
+    """Makes the folder of the record, and returns whether nobody else may write into it."""
+    try:
+        RECORD.mkdir(mode=0o700, exist_ok=True)
+        return is_ours(RECORD)
+    except OSError:
+        return False
+
+
 def add():
     """Adds the state of this checkout to the record, and drops the oldest ones."""
-    RECORD.mkdir(mode=0o700, exist_ok=True)
-    if not is_ours(RECORD):
+    if not make_record():
         sys.exit(f"proved.py: {RECORD} isn't a folder that only its owner may write into: nothing is recorded")
     files = files_of(ROOT)
     name = hashlib.sha256(json.dumps([kit_name(), files]).encode()).hexdigest()[:32]
