@@ -5,11 +5,11 @@
     tools/prove_ahead.py --libraries
 
 What `rt ci` keeps of a crate counts for each checkout on this machine, and for the gate, while the texts of the crate and of all below
-it stay the same. The gate itself can't begin with this: there `rt ci` refuses the name of a crate. Without a CRATE all are proved, and
+it stay the same. A merge can't begin with this: there `rt ci` refuses the name of a crate. Without a CRATE all are proved, and
 with some these and all below them. N jobs are given out, as many as there are processors if N isn't given. The crate with the longest
 way to the end comes first, and is given two of them, as many as `rt ci` gives a crate that it proves alone; the others are given one,
-and wait while little memory is free. A crate that changes meanwhile is proved as it is when its turn comes. What was said of each is in
-target/ahead/CRATE.log. `rt` keeps 10 GB at the most, and a run drops at its end what it hasn't used, longest unused first: where all
+and wait while little memory is free. A crate that changes meanwhile is proved as it is when its turn comes. After each one a line says
+how far that is, by lines of crates, and how long the rest takes at that rate. What was said of each is in target/ahead/CRATE.log. `rt` keeps 10 GB at the most, and a run drops at its end what it hasn't used, longest unused first: where all
 crates together take more, the gate proves again what went so. A kit whose `rt ci` takes no names keeps nothing, and this says so.
 
 The second line proves nothing: it puts the newest library that is kept of each crate into this checkout, where tools/wrong_bodies.py and
@@ -89,6 +89,7 @@ class Ahead:
     def __init__(self, below, wanted, most):
         self.below, self.most, self.ways = below, most, ways(below)
         self.left, self.running, self.kept, self.failed = list(wanted), {}, set(), set()
+        self.wanted, self.began = list(wanted), time.monotonic()
 
     def settle(self):
         """Notes which proofs have ended, and leaves out the crates above those that failed."""
@@ -106,7 +107,13 @@ class Ahead:
         """Says what came of a crate, with the end of what was said of it if it isn't proved."""
         if not is_kept:
             print(*(LOGS / f"{name}.log").read_text(encoding="utf-8", errors="replace").splitlines()[-LAST:], sep="\n")
-        print(f"prove_ahead.py: {name} {'kept' if is_kept else 'NOT PROVED'}", flush=True)
+        print(f"prove_ahead.py: {name} {f'kept, {self.progress()}' if is_kept else 'NOT PROVED'}", flush=True)
+
+    def progress(self):
+        """How far this is."""
+        done, whole = (sum(map(size, names)) for names in (self.kept, self.wanted))
+        minutes = (time.monotonic() - self.began) / 60 * (whole - done) / max(done, 1)
+        return f"crate {len(self.kept)} of {len(self.wanted)}, {100 * done // max(whole, 1)} percent, {minutes:.0f} minutes left"
 
     def jobs_for(self, name):
         """The jobs for a crate: two if none has a longer way, which may be one more than are free; 0 if it has to wait."""
