@@ -20,6 +20,8 @@ import shutil
 import sys
 import tempfile
 
+import amounts
+
 ROOT = pathlib.Path(__file__).resolve().parent.parent
 PAGE = ROOT / "python" / "README.md"
 FOLDER = pathlib.Path("/usr/share/gocode/src/go.mongodb.org/mongo-driver/data/crud")
@@ -279,7 +281,7 @@ def named_on_page():
 
 
 def main():
-    folder = pathlib.Path(tempfile.mkdtemp(prefix="crud-", dir="/dev/shm" if os.access("/dev/shm", os.W_OK) else None))
+    folder = pathlib.Path(tempfile.mkdtemp(prefix="crud-", dir=amounts.memory_folder()))
     try:
         passed, refused, otherwise = run_all(folder)
     finally:

@@ -15,9 +15,11 @@ import subprocess
 import sys
 import tempfile
 
+import amounts
+
 PROGRAM = os.path.abspath(sys.argv[1])
 COUNT = int(sys.argv[2]) if len(sys.argv) > 2 else 400
-random.seed(sys.argv[3] if len(sys.argv) > 3 else 20261128)
+random.seed(int(sys.argv[3]) if len(sys.argv) > 3 else amounts.seed(20261128))
 PATHS = ["a", "b", "a.b", "a.0", "a.1", "a.b.a", "a.0.b", "a.b.0", "b.a", "a.a", "a.0.0", "c", "_id"]
 VALUES = [None, 0, 1, 2, -1, 1.5, 1.0, 2.0, 3, "", "x", "y", "xy", True, False, 7]
 

@@ -25,13 +25,14 @@ except ImportError:
     sys.exit("extended_json.py: needs Python's bson, of Debian: apt-get install python3-bson")
 
 sys.path.insert(0, str(pathlib.Path(__file__).resolve().parent))
+import amounts  # noqa: E402
 from random_documents import Spots, settle, whole, write_document  # noqa: E402
 
 PROGRAM = sys.argv[1]
 BESIDE = pathlib.Path(PROGRAM).parent / "bson_store"
 STORE = sys.argv[2] if len(sys.argv) > 2 else str(BESIDE) if BESIDE.exists() else None
 OPTIONS = json_util.JSONOptions(json_mode=json_util.JSONMode.CANONICAL, tz_aware=False, tzinfo=None)
-GENERATOR = random.Random(20)
+GENERATOR = random.Random(amounts.seed(20))
 UNSOUND = b"\xff\xff\xff\xff"
 
 

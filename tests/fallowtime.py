@@ -4,7 +4,7 @@ and texts that can't be read in all their spellings; queries; and documents made
 
     tests/fallowtime.py PROGRAM [DOCUMENTS]
 
-PROGRAM is fallowtime, under whatever name. DOCUMENTS is how many are made at random, 300 if not given. Prints one line a step, and ends
+PROGRAM is fallowtime, under whatever name. DOCUMENTS is how many are made at random, 60 if not given (300 in a long run). Prints one line a step, and ends
 with status 1 at the first that isn't as it should be. A command that only reads, or whose words can't be read, must leave each file of
 the folder as it is. Files that other processes have, or that can't be had, are for tests/fallowtime_files.py. Wants sqlite3.
 """
@@ -32,6 +32,7 @@ except ImportError:
     sys.exit("fallowtime.py: needs sqlite3 and Python's bson, of Debian: apt-get install sqlite3 python3-pymongo")
 
 sys.path.insert(0, str(pathlib.Path(__file__).resolve().parent))
+import amounts  # noqa: E402
 from customers import ASKED, CUSTOMERS  # noqa: E402
 from page_reader import (ARRAY, BINARY, BOOLEAN, CODE, DATE, DECIMAL, DOCUMENT, DOUBLE, INT32, INT64, MAX_KEY, MIN_KEY, NULL,  # noqa: E402
                          OBJECT_ID, OLD_BINARY, POINTER, REGEX, SCOPED, STRING, SYMBOL, TIMESTAMP, UNDEFINED)
@@ -39,7 +40,7 @@ from random_documents import settle, whole, written  # noqa: E402
 
 ROOT = pathlib.Path(__file__).resolve().parent.parent
 PROGRAM = os.path.abspath(sys.argv[1])
-DOCUMENTS = int(sys.argv[2]) if len(sys.argv) > 2 else 300
+DOCUMENTS = int(sys.argv[2]) if len(sys.argv) > 2 else amounts.amount(60, 300)
 FOLDER = pathlib.Path(tempfile.mkdtemp(prefix="fallowtime-"))
 atexit.register(shutil.rmtree, FOLDER, ignore_errors=True)
 os.chdir(FOLDER)
@@ -74,6 +75,7 @@ COMMANDS = {
     "apply": ([], []),
 }
 READERS = ["get", "find", "count", "export", "collections", "check"]
+chance = random.Random(amounts.seed(20261126))
 steps = 0
 
 
@@ -140,6 +142,16 @@ def body_of(document):
 for words in [["frob"], ["frob", "c"], ["Insert", "c", "{}"], ["--canonical"], ["--wait"], ["insert--canonical", "c", "{}"]]:
     check(words, USAGE)
 OPTIONS = [["--canonical"], ["--bson"], ["--json"], ["--wait", "0"], ["--wait", "1"], ["--pretty"], ["--sort", "a:-1,b"], ["--skip", "1"], ["--limit", "0"]]
+
+
+def pairs_of_options(own):
+    """Two options, one behind the other: those that fit a command in each order, and of the others a part, or all."""
+    pairs = list(itertools.permutations(OPTIONS, 2))
+    fitting = [pair for pair in pairs if all(option[0] in [*own, "--wait"] for option in pair)]
+    others = [pair for pair in pairs if pair not in fitting]
+    return fitting + chance.sample(others, amounts.amount(6, len(others)))
+
+
 for command, (places, own) in COMMANDS.items():
     start("none/none.db")
     for count in range(len(places)):
@@ -147,7 +159,7 @@ for command, (places, own) in COMMANDS.items():
     most = [*places, "{}"] if command in ("find", "count") else places
     for word in "{}", "x", "":
         check([command, *most, word], USAGE)
-    for options in itertools.chain(*(itertools.permutations(OPTIONS, count) for count in range(3))):
+    for options in [(), *itertools.permutations(OPTIONS, 1), *pairs_of_options(own)]:
         names = [option[0] for option in options]
         fits = all(name in [*own, "--wait"] for name in names) and names != ["--wait"] * 2 and sorted(names) != ["--bson", "--canonical"]
         found = run(command, *places, *itertools.chain(*options))
@@ -777,11 +789,10 @@ def again(decode, given):
         return None
 
 
-generator = random.Random(20261126)
 compared, bodies, texts = 0, {}, []
 start("random.db")
 for number in range(DOCUMENTS):
-    made = settle(generator, whole(generator))
+    made = settle(chance, whole(chance))
     body = written(made)[0]
     canonical, relaxed = (json_text(DOCUMENT, made, is_relaxed) for is_relaxed in (False, True))
     the_id = next((tag, value) for tag, key, value in made if key == b"_id")

@@ -4,7 +4,7 @@ that fail, with little memory, and many times at once beside a session that writ
 
     tests/fallowtime_files.py PROGRAM [INSERTS]
 
-PROGRAM is fallowtime, under whatever name. INSERTS is how many a session does beside 20 readers, 1000 if not given. Prints one line a
+PROGRAM is fallowtime, under whatever name. INSERTS is how many a session does beside 20 readers, 300 if not given (1000 in a long run). Prints one line a
 step, and ends with status 1 at the first that isn't as it should be. Wants sqlite3.
 """
 import atexit
@@ -29,6 +29,8 @@ try:
 except ImportError:
     sys.exit("fallowtime_files.py: needs sqlite3 and Python's bson, of Debian: apt-get install sqlite3 python3-pymongo")
 
+import amounts  # noqa: E402
+
 FOLDER = pathlib.Path(tempfile.mkdtemp(prefix="fallowtime-files-"))
 atexit.register(shutil.rmtree, FOLDER, ignore_errors=True)
 BIN, SHOP = FOLDER / "bin", FOLDER / "shop"
@@ -39,13 +41,13 @@ PROGRAM = str(BIN / "fallowtime")
 shutil.copy(sys.argv[1], PROGRAM)
 FOLDER.chmod(0o755)
 os.chdir(SHOP)
-INSERTS = int(sys.argv[2]) if len(sys.argv) > 2 else 1000
+INSERTS = int(sys.argv[2]) if len(sys.argv) > 2 else amounts.amount(300, 1000)
 READS = [["get", "c", "0"], ["find", "c"], ["count", "c"], ["export", "c"], ["collections"], ["check"], ["backup", "copy.db"]]
 CHANGES = [["insert", "c", '{"_id":-1}'], ["put", "c", '{"_id":-1}'], ["replace", "c", '{"_id":0}'], ["set", "c", "0", "k", "1"],
            ["unset", "c", "0", "k"], ["remove", "c", "0"], ["import", "c"]]
 MAKERS = ["insert", "put", "import"]
 # The longest that a call may take here.
-LONG = 120
+LONG = 600
 steps = 0
 
 
@@ -71,6 +73,16 @@ def ended(*words, **streams):
 
 def refusal(told):
     return 1, b"", f"refused: {told}\n"
+
+
+def refused_at_once(step, do, told):
+    """A command is refused, and doesn't wait the five seconds for it that it waits if no word says otherwise."""
+    took = amounts.least_time(lambda: holds(step, do(), refusal(told)), 4)
+    holds("at once", took < 4, True)
+
+
+def limit_memory(most):
+    resource.setrlimit(resource.RLIMIT_AS, (most, most))
 
 
 def files():
@@ -280,10 +292,7 @@ for beside, (kind, put) in itertools.product(["beside.db-wal", "beside.db-journa
     put(beside)
     before = files()
     for words in READS + CHANGES:
-        began = time.time()
-        holds(f"{words[0]} where {beside} is {kind}", run("beside.db", *words, preexec_fn=lambda: resource.setrlimit(resource.RLIMIT_AS, (1 << 30, 1 << 30))),
-              refusal("NotPlain"))
-        holds("at once", time.time() - began < 4, True)
+        refused_at_once(f"{words[0]} where {beside} is {kind}", lambda: run("beside.db", *words, preexec_fn=lambda: limit_memory(1 << 30)), "NotPlain")
     stay(kind, before)
     os.rmdir(beside) if kind == "a folder" else os.remove(beside)
     pathlib.Path("named").unlink(missing_ok=True)
@@ -382,13 +391,11 @@ before = files()
 holds("reads beside a session", answers("shop.db") == answers_of(range(340)), True)
 stay("reads beside a session", before)
 for words in CHANGES:
-    began = time.time()
-    holds(f"{words[0]} beside a session", run("shop.db", *words, "--wait", "0"), refusal("Busy"))
-    holds("at once", time.time() - began < 4, True)
+    refused_at_once(f"{words[0]} beside a session", lambda: run("shop.db", *words, "--wait", "0"), "Busy")
 for seconds, words in ("1", ["--wait", "1"]), ("5", []):
     began = time.time()
     holds(f"remove, waiting {seconds} seconds", run("shop.db", "remove", "c", "0", *words), refusal("Busy"))
-    holds("it did wait", float(seconds) - 0.2 < time.time() - began < float(seconds) + 20, True)
+    holds("it did wait", float(seconds) - 0.2 < time.time() - began < float(seconds) + LONG, True)
 stay("changes that are refused", before)
 waiting = subprocess.Popen([PROGRAM, "shop.db", "insert", "c", json.dumps(document(340)), "--wait", "60"], stdout=subprocess.PIPE, stderr=subprocess.PIPE)
 time.sleep(0.5)
@@ -525,10 +532,6 @@ holds("it has nothing", run("new.db", "count", "c"), (0, b"0\n", ""))
 holds("and can be used", run("new.db", "insert", "c", '{"_id":1}'), (0, b"1\n", ""))
 holds("a back-up that may not grow", run("shop.db", "backup", "b.db", preexec_fn=lambda: limit_files(1 << 20)), refusal("Disk"))
 holds("is not there", os.path.exists("b.db"), False)
-
-
-def limit_memory(most):
-    resource.setrlimit(resource.RLIMIT_AS, (most, most))
 
 
 # ---- Little memory: each command is done, or refused as out of memory, and never ended by a signal.

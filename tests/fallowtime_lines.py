@@ -27,6 +27,7 @@ except ImportError:
     sys.exit("fallowtime_lines.py: needs Python's bson, of Debian: apt-get install python3-pymongo")
 
 sys.path.insert(0, str(pathlib.Path(__file__).resolve().parent))
+import amounts  # noqa: E402
 from customers import ASKED, CUSTOMERS  # noqa: E402
 
 FOLDER = pathlib.Path(tempfile.mkdtemp(prefix="fallowtime-lines-"))
@@ -463,7 +464,7 @@ holds("no folder", run(b"", "none/a.db"), (1, [], "refused: NoFolder\n"))
 lines = encoded(['["import","c",%s]' % binary(stream), '["count","c"]', '["find","c"]', '["export","c"]'])
 wanted = run(lines, "small.db")
 found = set()
-for megabytes in [*range(400, 40, -20), *range(40, 2, -1)]:
+for megabytes in [*range(400, 40, -amounts.amount(120, 20)), *range(40, 2, -amounts.amount(2, 1))]:
     (FOLDER / "small.db").unlink(missing_ok=True)
     (FOLDER / "small.db-wal").unlink(missing_ok=True)
     status, answers, told = run(lines, "small.db", preexec_fn=lambda: resource.setrlimit(resource.RLIMIT_AS, (megabytes << 20, megabytes << 20)))

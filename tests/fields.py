@@ -11,9 +11,11 @@ import subprocess
 import sys
 import tempfile
 
+import amounts
+
 PROGRAM = os.path.abspath(sys.argv[1])
 COUNT = int(sys.argv[2]) if len(sys.argv) > 2 else 300
-random.seed(int(sys.argv[3]) if len(sys.argv) > 3 else 67)
+random.seed(int(sys.argv[3]) if len(sys.argv) > 3 else amounts.seed(67))
 KEYS = ["a", "b", "0", "_id"]
 PATHS = ["a", "b", "c", "0", "_id", "a.b", "a.a", "a.0", "b.a.b", "a.b.a", "_id.a", "0.a", "", "a.", ".a", "a..b", "$a", "a.$b", "a$"]
 

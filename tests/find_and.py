@@ -15,6 +15,7 @@ import subprocess
 import sys
 import tempfile
 
+import amounts
 import fields
 import sorted as order
 
@@ -229,7 +230,7 @@ def refusals():
 
 
 if __name__ == "__main__":
-    random.seed(sys.argv[3] if len(sys.argv) > 3 else 68)
+    random.seed(int(sys.argv[3]) if len(sys.argv) > 3 else amounts.seed(68))
     with tempfile.TemporaryDirectory() as folder:
         os.chdir(folder)
         over_lines()

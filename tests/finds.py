@@ -19,6 +19,7 @@ import tempfile
 import mongomock
 from bson import ObjectId, json_util
 
+import amounts
 import pipelines
 import questions
 
@@ -276,7 +277,7 @@ def compare(file, indexed, texts, finds, others):
     return some
 
 
-def main(count=50, seed=67):
+def main(count=amounts.amount(25, 50), seed=amounts.seed(67)):
     for sort, told in (OfAllKinds, "with values of all kinds"), (Agreed, "beside mongomock, too"):
         made = sort(seed)
         with tempfile.TemporaryDirectory() as folder:

@@ -24,6 +24,7 @@ import sys
 import tempfile
 import tty
 
+import amounts
 import command_table
 
 # Who starts this in the background may have these signals ignored, and what is started here would inherit that.
@@ -48,7 +49,7 @@ STUB = """#!/bin/sh
 if [ "$1" = --explain ]; then echo "fallowtime: the kinds are: Busy NoFile NoFolder" >&2; exit 2; fi
 if [ "$2" = collections ]; then printf 'orders\\nold orders\\nmore\\n'; exit; fi
 if [ "$2$3" = importlines ]; then exec wc -l; fi
-if [ "$3" = long ]; then sleep 1.5; fi
+if [ "$3" = long ]; then sleep 3; fi
 printf '%s' "$(basename -- "$0")"
 printf ' <%s>' "$@"
 echo
@@ -173,7 +174,7 @@ def all_lines():
                     "-1", " 5", "", "99999999999999999999", "18446744073809551615", "0" * 30 + "5"]:
         yield ["f", "--wait", seconds]
         yield ["f", "collections", "--wait", seconds]
-    chance = random.Random(1)
+    chance = random.Random(amounts.seed(1))
     words = [*COMMANDS, *OPTIONS[:3], "--wait", "5", "f", "c", "{}", "", "-", "--", "-x", "insert--canonical", "get c"]
     for _ in range(600):
         yield chance.choices(words, k=chance.randrange(6))
@@ -434,7 +435,7 @@ for number in None, signal.SIGINT, signal.SIGTERM:
     holds("the progress of an import", told.decode().startswith("\r\n\x1b[Kfallowtime: 0 MB read, 0 MB written"), True)
     if number:
         process.send_signal(number)
-        holds(f"an import ended by {number.name}", (process.wait(60), process.stdout.read()), (-number, b""))
+        holds(f"an import ended by {number.name}", (process.wait(600), process.stdout.read()), (-number, b""))
         process.stdin.close()
     else:
         holds("an import", (process.communicate(b"{}\n{}\n")[0], process.returncode), (b"2\n", 0))

@@ -4,8 +4,8 @@ and the rows of both files, byte for byte.
 
 tests/indexes.py PROGRAM [LISTS [SEED]]
 
-PROGRAM is the program under the name fallowtime. LISTS is how many lists there are, 2500 if it isn't given, and SEED the
-number of the first one. A list mixes changes of two collections with questions about paths that have an index or have
+PROGRAM is the program under the name fallowtime. LISTS is how many lists there are, 350 if it isn't given (2500 in a long run), and
+SEED the number of the first one. A list mixes changes of two collections with questions about paths that have an index or have
 none, and with indexes that are made and dropped between them. Of a list whose answers differ, the shortest one that is
 found is printed. Behind the lists questions are asked after each sort of change, and it is measured that those which an
 index serves read few documents. At last random ranges are held against an evaluation by tests/questions.py. Ends with
@@ -26,14 +26,15 @@ import tempfile
 
 import bson
 
+import amounts
 import questions
 
-FOLDER = pathlib.Path(tempfile.mkdtemp(dir="/dev/shm" if os.access("/dev/shm", os.W_OK) else None))
+FOLDER = pathlib.Path(tempfile.mkdtemp(dir=amounts.memory_folder()))
 atexit.register(shutil.rmtree, FOLDER, ignore_errors=True)
 PROGRAM = str(FOLDER / "fallowtime")
 os.symlink(pathlib.Path(sys.argv[1]).resolve(), PROGRAM)
-LISTS = int(sys.argv[2]) if len(sys.argv) > 2 else 2500
-SEED = int(sys.argv[3]) if len(sys.argv) > 3 else 1
+LISTS = int(sys.argv[2]) if len(sys.argv) > 2 else amounts.amount(350, 2500)
+SEED = int(sys.argv[3]) if len(sys.argv) > 3 else amounts.seed(1)
 # How many lists one process answers, each over collections of its own.
 BATCH = 50
 # How often a time is measured.
@@ -297,46 +298,46 @@ def changes_beside_indexes():
             ["put", "c", {"_id": "last", "text": "y"}], ["drop_index", "c", "text"]]
 
 
+def times_of(changes, requests, is_quick):
+    """What requests are answered behind changes, and the processor's time of that with the indexes and without, without the time of the
+    changes. The answers are the same; and if they have to be quick, the first takes a quarter at the most. As other processes take of
+    the same processor, that is measured again if it doesn't."""
+    plain = without_indexes(changes)
+    for _ in range(amounts.TRIES):
+        start = seconds(changes, "base.db")[1]
+        found, by_index = seconds(changes + requests, "with.db")
+        scanned, by_all = seconds(plain + requests, "without.db")
+        if found[len(changes):] != scanned[len(plain):]:
+            fail(f"the answers to {requests[0]} and those behind it differ")
+        if not is_quick or by_index - start <= (by_all - start) / 4:
+            return found[len(changes):], by_index - start, by_all - start
+    fail(f"{requests[0]} and those behind it read many documents: {by_index - start:.3f} s, without the index {by_all - start:.3f} s")
+
+
 def measure():
     """Questions are answered as without an index. Of those that it serves each sort takes a small part of the time."""
-    changes, numbers = changes_beside_indexes(), range(0, 2000, 4)
-    plain = without_indexes(changes)
-    start, times = seconds(changes, "base.db")[1], []
+    changes, numbers, times = changes_beside_indexes(), range(0, 2000, amounts.amount(20, 4)), []
     for query, wanted in SERVED + NOT_SERVED:
-        questions = asked(query, numbers)
-        found, by_index = seconds(changes + questions, "with.db")
-        scanned, by_all = seconds(plain + questions, "without.db")
-        if found[len(changes):] != scanned[len(plain):]:
-            fail(f"the counts by {query(100)} differ")
-        count = json.loads(found[len(changes) + numbers.index(100)])["count"]
+        is_quick = len(times) < len(SERVED)
+        found, *took = times_of(changes, asked(query, numbers), is_quick)
+        count = json.loads(found[numbers.index(100)])["count"]
         if count != wanted:
             fail(f"the count by {query(100)} is {count}, and not {wanted}")
-        times.append((by_index - start, by_all - start))
-    served = times[:len(SERVED)]
-    quick, slow = map(sum, zip(*served))
-    print(f"{len(served) * len(numbers)} questions: {quick:.2f} s of the processor, without the index {slow:.2f} s")
-    for (query, _), (by_index, by_all) in zip(SERVED, served):
-        if by_index > by_all / 4:
-            fail(f"{query(100)} reads many documents: {by_index:.3f} s, without the index {by_all:.3f} s")
+        times.append(took)
+    quick, slow = map(sum, zip(*times[:len(SERVED)]))
+    print(f"{len(SERVED) * len(numbers)} questions: {quick:.2f} s of the processor, without the index {slow:.2f} s")
 
 
 def measure_sorted():
     """Of an order along the indexed path the first of a range are found without a way through all of it."""
-    changes = changes_beside_indexes()
-    plain = without_indexes(changes)
-    start = seconds(changes, "base.db")[1]
     for way in (1, -1):
-        questions = [["find", "c", {"a.b": {"$gte": n, "$lt": n + 1000}}, {"sort": {"a.b": way}, "limit": 10}] for n in range(0, 1000, 4)]
-        found, by_index = seconds(changes + questions, "with.db")
-        scanned, by_all = seconds(plain + questions, "without.db")
-        if found[len(changes):] != scanned[len(plain):]:
-            fail(f"the first ones in the order {way} differ")
-        print(f"{len(questions)} finds of ten in the order {way}: {by_index - start:.2f} s of the processor, without the index {by_all - start:.2f} s")
-        if by_index - start > (by_all - start) / 4:
-            fail("an order along an index reads many documents")
+        questions = [["find", "c", {"a.b": {"$gte": n, "$lt": n + 1000}}, {"sort": {"a.b": way}, "limit": 10}]
+                     for n in range(0, 1000, amounts.amount(20, 4))]
+        _, by_index, by_all = times_of(changes_beside_indexes(), questions, True)
+        print(f"{len(questions)} finds of ten in the order {way}: {by_index:.2f} s of the processor, without the index {by_all:.2f} s")
 
 
 compare()
 measure()
 measure_sorted()
-questions.by_indexes(PROGRAM)
+questions.by_indexes(PROGRAM, amounts.amount(400, 2000), SEED)

@@ -22,14 +22,16 @@ import subprocess
 import sys
 import tempfile
 
+import amounts
+
 COUNT = int(sys.argv[2]) if len(sys.argv) > 2 else 2000
-SEED = int(sys.argv[3]) if len(sys.argv) > 3 else 20261129
+SEED = int(sys.argv[3]) if len(sys.argv) > 3 else amounts.seed(20261129)
 FOLDER = pathlib.Path(tempfile.mkdtemp(prefix="lists-"))
 atexit.register(shutil.rmtree, FOLDER, ignore_errors=True)
 PROGRAM = str(FOLDER / "fallowtime")
 shutil.copy(sys.argv[1], PROGRAM)
 # The longest that a call may take here, in seconds.
-LONG = 60
+LONG = 600
 COLLECTIONS = ["a", "b"]
 IDS = 12
 CALLS = "pwrite64,ftruncate,fsync,fdatasync"

@@ -27,16 +27,18 @@ import subprocess
 import sys
 import tempfile
 
+import amounts
+
 FOLDER = pathlib.Path(tempfile.mkdtemp(prefix="pages-"))
 atexit.register(shutil.rmtree, FOLDER, ignore_errors=True)
 # The name under which the program is started says which one it is.
 PROGRAM = str(FOLDER / "fallowtime")
 shutil.copy(sys.argv[1], PROGRAM)
 FILES = int(sys.argv[2]) if len(sys.argv) > 2 else 50
-FIRST = int(sys.argv[3]) if len(sys.argv) > 3 else 0
+FIRST = int(sys.argv[3]) if len(sys.argv) > 3 else amounts.seed(0)
 os.chdir(FOLDER)
 # The longest that a call may take here.
-LONG = 120
+LONG = 600
 # Behind so many bytes of a log the whole file is read.
 LONG_LOG = (1 << 25) + 1
 TABLE = ("CREATE TABLE documents (place INTEGER PRIMARY KEY, coll TEXT NOT NULL, idkey BLOB NOT NULL, body BLOB NOT NULL, "

@@ -17,6 +17,7 @@ import sys
 import tempfile
 from fractions import Fraction
 
+import amounts
 import questions
 from questions import order
 
@@ -421,7 +422,8 @@ def beside_mongomock(seed, count):
 
 if __name__ == "__main__":
     PROGRAM = os.path.abspath(sys.argv[1])
-    number, start = (int(word) for word in [*sys.argv[2:], "60", "67"][:2]) if len(sys.argv) != 3 else (int(sys.argv[2]), 67)
+    number = int(sys.argv[2]) if len(sys.argv) > 2 else 60
+    start = int(sys.argv[3]) if len(sys.argv) > 3 else amounts.seed(67)
     with tempfile.TemporaryDirectory() as folder:
         os.chdir(folder)
         all_kinds(Made(start), number)

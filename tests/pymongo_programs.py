@@ -34,6 +34,7 @@ from apscheduler.jobstores.mongodb import MongoDBJobStore  # noqa: E402
 from apscheduler.schedulers.background import BackgroundScheduler  # noqa: E402
 from requests_cache.backends.mongodb import MongoCache  # noqa: E402
 
+import amounts  # noqa: E402
 import fallowtime  # noqa: E402
 
 # A scheduler that ends looks once more into its stores, which it has closed, and logs that.
@@ -316,7 +317,7 @@ def hold_errors(client):
 
 
 def main():
-    memory = "/dev/shm" if os.access("/dev/shm", os.W_OK) else None
+    memory = amounts.memory_folder()
     folder = pathlib.Path(tempfile.mkdtemp(prefix="programs-", dir=memory))
     try:
         hold_apscheduler(folder / "apscheduler")

@@ -22,7 +22,7 @@ os.environ["FALLOWTIME"] = PROGRAM
 sys.path.insert(0, str(pathlib.Path(__file__).resolve().parent.parent / "python" / "tests"))
 sys.dont_write_bytecode = True
 # All of them take a minute or two.
-faulthandler.dump_traceback_later(1200, exit=True)
+faulthandler.dump_traceback_later(3300, exit=True)
 
 if len(sys.argv) > 2:
     suite = unittest.defaultTestLoader.loadTestsFromNames(sys.argv[2:])

@@ -28,13 +28,14 @@ import time
 
 import bson
 
+import amounts
 import relaying
 from relaying import HEADER, LONG, LONGEST, MORE_TO_COME, OP_MSG, ROOT, Line, Relay, compiled, fail, hello, holds, is_gone, message, wait_for
 
 # Who starts this in the background may have these signals ignored, and what is started here would inherit that.
 signal.signal(signal.SIGINT, signal.default_int_handler)
 signal.signal(signal.SIGHUP, signal.SIG_DFL)
-SEED = 20261128
+SEED = amounts.seed(20261128)
 # How many times as long as over a server that answers with a constant a find may take: of the processor, and by the clock.
 MOST_WORK, LONGER = 6, 2.5
 FIND = {"find": "items", "$db": "shop"}
@@ -431,7 +432,7 @@ def names(program, folder):
 
 def limits(program, folder):
     """So many connections and no more, and none that asks for nothing too long."""
-    relay = Relay(program, store(folder), "--connections", 3, "--idle", 4)
+    relay = Relay(program, store(folder), "--connections", 3, "--idle", 10)
     lines = [relay.line() for _ in range(3)]
     for line in lines:
         line.ask({"ping": 1, "$db": "admin"})
@@ -439,7 +440,7 @@ def limits(program, folder):
     holds("a fourth of three connections is closed", more.is_closed(), True)
     lines[0].close()
     begin = time.monotonic()
-    while time.monotonic() < begin + 7:
+    while time.monotonic() < begin + 16:
         lines[1].ask({"ping": 1, "$db": "admin"})
         time.sleep(0.1)
     holds("an idle connection is closed", lines[2].is_closed(), True)

@@ -15,9 +15,11 @@ import subprocess
 import sys
 import tempfile
 
+import amounts
+
 PROGRAM = os.path.abspath(sys.argv[1])
 COUNT = int(sys.argv[2]) if len(sys.argv) > 2 else 400
-random.seed(sys.argv[3] if len(sys.argv) > 3 else 20261128)
+random.seed(int(sys.argv[3]) if len(sys.argv) > 3 else amounts.seed(20261128))
 # Texts that are no paths, or likely to mean something else, by the option of a command line.
 ODD = {"sort": ["-a", "+a", "a,-b", "a:desc", "a:-2", "a:1:1", "a, b", " a", "a ", '{"a":-1}', '"a"', "", "a.", ".a", "a,,b", ":-1"],
        "fields": ["-a", "+a", "a, b", '{"a":1}', "a:1", '"a"'], "without": ["-a", "a, b", "a:0"]}

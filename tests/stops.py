@@ -36,15 +36,17 @@ import tempfile
 import threading
 import time
 
+import amounts
+
 # In memory, as each of the files is synced often.
-SHOP = pathlib.Path(tempfile.mkdtemp(prefix="stops-", dir="/dev/shm" if os.access("/dev/shm", os.W_OK) else None))
+SHOP = pathlib.Path(tempfile.mkdtemp(prefix="stops-", dir=amounts.memory_folder()))
 atexit.register(shutil.rmtree, SHOP, ignore_errors=True)
 # The name under which the program is started says which one it is.
 PROGRAM = str(SHOP / "fallowtime")
 shutil.copy(sys.argv[1], PROGRAM)
-SEED = int(sys.argv[2]) if len(sys.argv) > 2 else 1
+SEED = int(sys.argv[2]) if len(sys.argv) > 2 else amounts.seed(1)
 # The longest that a call may take here.
-LONG = 60
+LONG = 600
 AT_ONCE = 2
 NAMES = ("shop.db", "shop.db-wal")
 CALLS = "openat,pwrite64,ftruncate,fsync,fdatasync,unlink,rename"

@@ -22,6 +22,8 @@ import tempfile
 import termios
 import time
 
+import amounts
+
 # Who starts this in the background may have these signals ignored, and what is started here would inherit that.
 for number in signal.SIGINT, signal.SIGQUIT, signal.SIGHUP:
     signal.signal(number, signal.SIG_DFL)
@@ -83,7 +85,7 @@ def at_terminal(*words, given="", **more):
     os.write(ours, given.encode())
     told = read_until(ours)
     os.close(ours)
-    return process.wait(60), told
+    return process.wait(600), told
 
 
 def jsons(text):
@@ -156,7 +158,7 @@ for text in [*(whole[:end] for end in range(1, len(whole))), *(f"{whole}{more}" 
     status, out, errors = run("d.db", "import", "orders", "orders.json")
     if (status, out, errors.startswith("words: line ")) != (2, "", True) or (HERE / "d.db").exists():
         holds(f"no array: {text}", (status, out, errors), "words: line ..")
-chance = random.Random(1)
+chance = random.Random(amounts.seed(1))
 words = ['"', "\\", "\\\\", "{", "}", "[", "]", ",", ":", " ", "a", "\n", "\t", "\u20ac", "'", "$x"]
 values = [0, -1.5, True, None, {}, [], {"$a": 1}]
 for _ in range(40):
@@ -342,7 +344,7 @@ def at_prompt(*lines, shell="bash", words=("prompt.db",), **more):
     os.close(ours)
     # (readline shows what is typed itself)
     told = [text.removeprefix(line) for text, line in zip(told, ("", *lines))]
-    return process.wait(60), told
+    return process.wait(600), told
 
 
 for shell in "bash", "sh":
@@ -371,7 +373,7 @@ for shell in "bash", "sh":
         time.sleep(0.5)
     read_until(ours)
     os.close(ours)
-    holds(f"the end of it, by {shell}", process.wait(60), 0)
+    holds(f"the end of it, by {shell}", process.wait(600), 0)
 holds("no store", at_prompt(words=("orders.jsonl",))[1][0].splitlines()[0], "refused: NoDatabase")
 holds("lines that don't come from a terminal", run("shop.db", given='["count","orders"]\n'), (0, '{"count":4}\n', ""))
 for words in ["frob"], ["frob", "--wait", "1"]:

@@ -4,7 +4,7 @@ committed, whatever the moment.
 
     tests/torn.py PROGRAM [READS]
 
-PROGRAM is fallowtime, under whatever name. READS is how many commands are done beside each writer that doesn't rest, 12 if not given.
+PROGRAM is fallowtime, under whatever name. READS is how many commands are done beside each writer that doesn't rest, 5 if not given (12 in a long run).
 Some readers and writers are held between two calls of the system by strace, so that the worst moment comes for sure. Prints one line a
 step, and ends with status 1 at the first that isn't as it should be. Wants sqlite3, Python's bson and strace.
 """
@@ -23,6 +23,8 @@ import tempfile
 import threading
 import time
 
+import amounts
+
 try:
     import bson
 except ImportError:
@@ -33,9 +35,9 @@ atexit.register(shutil.rmtree, FOLDER, ignore_errors=True)
 # The name under which the program is started says which one it is.
 PROGRAM = str(FOLDER / "fallowtime")
 shutil.copy(sys.argv[1], PROGRAM)
-READS = int(sys.argv[2]) if len(sys.argv) > 2 else 12
+READS = int(sys.argv[2]) if len(sys.argv) > 2 else amounts.amount(5, 12)
 # The longest that a call may take here.
-LONG = 120
+LONG = 600
 JOURNALS = ["delete", "truncate", "persist"]
 
 
@@ -184,9 +186,10 @@ for mode in JOURNALS:
 file = make(FOLDER / "left.db", 3, 5)
 pathlib.Path(file + "-journal").write_bytes(b"\xd9\xd5\x05\xf9\x20\xa1\x63\xd7" + bytes(504))
 for seconds in 0, 1, 5:
-    began = time.time()
-    holds("beside a journal", run(file, "count", "c", *(["--wait", str(seconds)] if seconds != 5 else [])), (1, b"", "refused: Journal\n"))
-    holds(f"it waited {seconds} seconds", seconds - 0.2 < time.time() - began < seconds + (4 if seconds == 0 else 20), True)
+    most = 4 if seconds == 0 else seconds + LONG
+    words = ["--wait", str(seconds)] if seconds != 5 else []
+    took = amounts.least_time(lambda: holds("beside a journal", run(file, "count", "c", *words), (1, b"", "refused: Journal\n")), most)
+    holds(f"it waited {seconds} seconds", seconds - 0.2 < took < most, True)
 
 
 # ---- By chance: all documents are changed in one transaction after the other.
@@ -242,8 +245,8 @@ def read_beside(mode, folder):
 
 
 places = [FOLDER]
-if os.access("/dev/shm", os.W_OK):
-    places.append(pathlib.Path(tempfile.mkdtemp(prefix="torn-", dir="/dev/shm")))
+if amounts.memory_folder():
+    places.append(pathlib.Path(tempfile.mkdtemp(prefix="torn-", dir=amounts.memory_folder())))
     atexit.register(shutil.rmtree, places[1], ignore_errors=True)
 for place, mode in itertools.product(places, ["wal", "stays", *JOURNALS]):
     read_beside(mode, place)

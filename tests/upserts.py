@@ -16,12 +16,13 @@ import subprocess
 import sys
 import tempfile
 
+import amounts
 import updates
 from updates import NOTHING, REASONS, Refused, steps_of, text_of, tree_of, value_of
 
 PROGRAM = os.path.abspath(sys.argv[1])
 COUNT = int(sys.argv[2]) if len(sys.argv) > 2 else 2000
-random.seed(sys.argv[3] if len(sys.argv) > 3 else 20261128)
+random.seed(int(sys.argv[3]) if len(sys.argv) > 3 else amounts.seed(20261128))
 PATHS = ["a", "b", "c", "a.b", "a.c", "b.a", "b.a.c", "_id", "_id"]
 OPERATORS = ["$set", "$setOnInsert", "$inc", "$push", "$unset", "$min", "$rename", "$addToSet"]
 MADE = re.compile(r"[0-9a-f]{24}")

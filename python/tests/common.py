@@ -14,8 +14,10 @@ sys.path.insert(0, str(PYTHON))
 import fallowtime  # noqa: E402
 
 PROGRAM = os.environ.get("FALLOWTIME")
+# What random numbers follow from, where a run of all tests names it.
+SEED = int(os.environ.get("TEST_SEED") or 20261126)
 # Where files of many commands lie: in memory, if there is such a folder, as each change waits for the disk.
-MEMORY = "/dev/shm" if os.access("/dev/shm", os.W_OK) else None
+MEMORY = "/dev/shm" if os.access("/dev/shm", os.W_OK) and shutil.disk_usage("/dev/shm").free > 1 << 30 else None
 
 
 def is_same(one, other):

@@ -8,7 +8,7 @@ import sys
 import unittest
 import uuid
 
-from common import ROOT, WithFolder, is_same
+from common import ROOT, SEED, WithFolder, is_same
 
 import fallowtime
 from fallowtime import (Binary, Code, DatetimeMS, DBPointer, Int64, MaxKey, MinKey, ObjectId, Regex, Symbol, Timestamp,
@@ -23,7 +23,6 @@ except ImportError:
 sys.path.insert(0, str(ROOT / "tests"))
 
 DOCUMENTS = 20000
-SEED = 20261126
 # How many documents go in by one call.
 PIECE = 2000
 LETTERS = "ab zé中😀\x01\"\\\x7f\u2028$.\n"

@@ -2,13 +2,12 @@
 import random
 import unittest
 
-from common import WithFolder
+from common import SEED, WithFolder
 
 from fallowtime import ObjectId
 from fallowtime._projection import projection_of
 from fallowtime.errors import OperationFailure
 
-SEED = 20261128
 KEYS = ["a", "b", "c", "0", "é"]
 
 

@@ -4,12 +4,11 @@ import random
 import threading
 import unittest
 
-from common import WithFolder
+from common import SEED, WithFolder
 
 import fallowtime
 
 KILLS, MOST_KILLS = 50, 500
-SEED = 20261126
 KINDS = ["insert", "insert", "many", "replace", "set", "sets", "unset", "delete"]
 
 

@@ -6,10 +6,10 @@ import subprocess
 import sys
 import unittest
 
-from common import WithFolder
+from common import SEED, WithFolder
 
 # How many lists there are, and the number of the first one.
-LISTS, FIRST = os.environ.get("FALLOWTIME_LISTS", "100"), os.environ.get("FALLOWTIME_FIRST", "1")
+LISTS, FIRST = os.environ.get("FALLOWTIME_LISTS", "100"), os.environ.get("FALLOWTIME_FIRST", str(SEED))
 
 
 @unittest.skipUnless(importlib.util.find_spec("mongomock"), "python3-mongomock isn't here")

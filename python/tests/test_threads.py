@@ -99,7 +99,7 @@ class Threads(WithFolder):
             pass
         store.close()
         for thread in threads:
-            thread.join(30)
+            thread.join(600)
         self.assertEqual(errors, [fallowtime.Ended] * THREADS)
         with self.open() as store:
             self.assertEqual({found["_id"] for found in store["c"].find()}, set(answered))
