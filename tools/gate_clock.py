@@ -3,21 +3,24 @@
 
     tools/gate_clock.py LOG [PROCESSORS ..]
 
-LOG is what .ci/run printed of a whole run: from its lines `seconds of CRATE: ..` and `wrong bodies of CRATE: ..` are taken what each
-crate's proof, tests, builds and wrong bodies took of the processor, and from its line of minutes what the other steps took. They are
-laid out as the gate does it: a proof once those below it have ended, first the ones with the longest way to the end; tests, builds and
-wrong bodies, each once its crate or those below it are proved, wherever a processor is free; the tests of the built program last, one
-after the other. It prints the minutes of the processor, the longest chain of proofs, and the minutes by the clock on 2 and 4 processors
-or on as many as are named. Programs that wait for disks or for each other take longer than is reckoned.
+LOG is what .ci/run printed, of a merge or of a whole run: from its lines `seconds of CRATE: ..` and `wrong bodies of CRATE: ..` are taken
+what each crate's proof, tests, builds and wrong bodies took of the processor, and from its line of minutes what the other steps took.
+They are laid out as the gate does it, the longest way first: in a whole run a proof once those below it have ended, in a merge at once;
+tests, builds and wrong bodies of a crate behind its proof; beside them a quick build, and behind it the program of cases and the tests,
+a part of which waits, in a whole run, for the proved program. It prints the minutes of the processor, the longest way, and the minutes by
+the clock on 2 and 4 processors or on as many as are named. Programs that wait for disks or for each other take longer than is reckoned.
 """
 import heapq
 import pathlib
 import re
 import sys
 
+# How many parts the tests have, which run side by side.
+PARTS = 8
 ROOT = pathlib.Path(__file__).resolve().parent.parent
 SECONDS = re.compile(r"^seconds of (\w+): (.*)$", re.MULTILINE)
 BODIES = re.compile(r"^wrong bodies of (\w+): .* ([0-9]+) s of the processor$", re.MULTILINE)
+MERGE = re.compile(r"^prove_changed\.py: ", re.MULTILINE)
 MINUTES = re.compile(r"^minutes of the processor: [0-9]+ \((.*)\)$", re.MULTILINE)
 
 
@@ -28,47 +31,59 @@ def crates():
     return {name: [each for each in below if each in found] for name, below in found.items()}
 
 
-def ways(below, proofs):
-    """The seconds from the begin of each crate's proof to the end of the last one above it."""
+def ways(tasks):
+    """The seconds from the begin of each task to the end of the last one behind it."""
     way = {}
-    for name in reversed(list(below)):
-        above = [way[each] for each in way if name in below[each]]
-        way[name] = proofs.get(name, 0) + max(above, default=0)
+    for name in reversed(list(tasks)):
+        way[name] = tasks[name][0] + max((way[each] for each in way if name in tasks[each][1]), default=0)
     return way
 
 
-def clock(below, proofs, others, processors):
-    """The seconds until all is done: proofs by their longest way, and others, each a crate and seconds, where a processor is free."""
-    way, now, done, running = ways(below, proofs), 0.0, set(), []
-    left, waiting = set(below), list(others)
-    while left or waiting or running:
-        ready = sorted((name for name in left if done.issuperset(below[name])), key=lambda name: -way[name])
-        idle = processors - len(running)
-        for name in ready[:idle]:
+def clock(tasks, processors):
+    """The seconds until all tasks are done: each a name, its seconds and what it waits for."""
+    way, now, done, left, running = ways(tasks), 0.0, set(), set(tasks), []
+    while left or running:
+        ready = sorted((name for name in left if done.issuperset(tasks[name][1])), key=lambda name: -way[name])
+        for name in ready[: processors - len(running)]:
             left.remove(name)
-            heapq.heappush(running, (now + proofs.get(name, 0), name))
-        for task in [task for task in waiting if task[0] in done][:max(0, idle - len(ready))]:
-            waiting.remove(task)
-            heapq.heappush(running, (now + task[1], ""))
+            heapq.heappush(running, (now + tasks[name][0], name))
         now, ended = heapq.heappop(running)
         done.add(ended)
     return now
 
 
-def main():
-    log = pathlib.Path(sys.argv[1]).read_text(encoding="utf-8", errors="replace")
-    below, proofs, others = crates(), {}, []
-    for name, parts in SECONDS.findall(log):
-        took = {part.split()[0]: float(part.split()[1]) for part in parts.split(", ")}
-        proofs[name] = took.pop("proofs", 0.0)
-        others += [(name, seconds) for seconds in took.values()]
-    others += [(name, float(seconds)) for name, seconds in BODIES.findall(log)]
+def in_parts(tasks, name, seconds, behind):
+    """Adds a step that runs on all processors, in parts."""
+    for number in range(PARTS):
+        tasks[f"{name} {number}"] = seconds / PARTS, behind
+
+
+def tasks_of(log):
+    """What a gate did, lowest first."""
+    is_merge, tasks = bool(MERGE.search(log)), {}
+    took = {name: {part.split()[0]: float(part.split()[1]) for part in parts.split(", ")} for name, parts in SECONDS.findall(log)}
+    bodies = {name: float(seconds) for name, seconds in BODIES.findall(log)}
+    for name, below in crates().items():
+        seconds = took.get(name, {})
+        tasks[name] = seconds.pop("proofs", 0.0), set() if is_merge else set(below)
+        for part, each in [*seconds.items(), ("wrong bodies", bodies.get(name, 0.0))]:
+            tasks[f"{part} of {name}"] = each, {name}
     steps = {step.rpartition(" ")[0]: 60 * float(step.rpartition(" ")[2]) for step in MINUTES.findall(log)[-1].split(", ")}
-    last = steps.get("tests", 0.0)
-    known = sum(proofs.values()) + sum(seconds for _, seconds in others)
-    print(f"minutes of the processor: {(known + last) / 60:.0f}; the longest chain of proofs: {max(ways(below, proofs).values()) / 60:.0f}")
+    quick = max(0.0, steps.get("builds", 0.0) - sum(seconds.get("compilers", 0.0) for seconds in took.values()))
+    tasks["./quick"] = quick / 2, set()
+    tasks["./quick --cases"] = quick / 2, {"./quick"}
+    tests = steps.get("tests", 0.0) / (1 if is_merge else 2)
+    in_parts(tasks, "tests", tests, {"./quick"})
+    if not is_merge:
+        in_parts(tasks, "tests of the proved program", tests, set(crates()))
+    return tasks
+
+
+def main():
+    tasks = tasks_of(pathlib.Path(sys.argv[1]).read_text(encoding="utf-8", errors="replace"))
+    print(f"minutes of the processor: {sum(seconds for seconds, _ in tasks.values()) / 60:.0f}; the longest way: {max(ways(tasks).values()) / 60:.0f}")
     for processors in [int(word) for word in sys.argv[2:]] or [2, 4]:
-        print(f"on {processors} processors: {(clock(below, proofs, others, processors) + last) / 60:.0f} minutes")
+        print(f"on {processors} processors: {clock(tasks, processors) / 60:.0f} minutes")
 
 
 if __name__ == "__main__":
