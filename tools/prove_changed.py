@@ -75,10 +75,10 @@ def crates_at(rt, top):
 
 
 class Built:
-    """The libraries of a proved state that the kit's store has, put into a folder of their own."""
+    """The libraries of a proved state that the kit's store has, of those that are needed, put into a folder of their own."""
 
-    def __init__(self, rt, tree, folder):
-        self.tree, self.folder = tree, folder
+    def __init__(self, rt, tree, folder, needed):
+        self.folder, self.needed = folder, needed
         for part in ("crates", "crates.txt", "HANDLES"):
             (shutil.copytree if (tree / part).is_dir() else shutil.copyfile)(tree / part, folder / part)
         for out in folder.glob("crates/*/out"):
@@ -90,7 +90,7 @@ class Built:
         kept, taken = rt.Kept(list(crates.values())), set()
         self.sums = kept.rlibs
         for name, crate in crates.items():
-            if crate.is_program or not taken.issuperset(low.name for low in crate.below()):
+            if name not in self.needed or not taken.issuperset(low.name for low in crate.below()):
                 continue
             if kept.give(crate, False, kept.key(crate)):
                 kept.is_built(crate)
@@ -188,20 +188,27 @@ class Proofs:
         # (its first call handles a signal, which only the main thread may)
         self.rt.rtlib.guarded()
         self.crates, self.sources, self.built, self.seen = crates_at(self.rt, ROOT), Sources(self.room), None, {}
-        with tempfile.TemporaryDirectory() as others:
-            for number, tree in enumerate([base, *[tree for tree in proved.states(others) if tree != base]]):
-                folder = self.room / f"libraries-{number}"
-                folder.mkdir()
-                built = Built(self.rt, tree, folder)
-                if self.built is None or len(built.names) > len(self.built.names):
-                    self.built, self.seen = built, changed.changes(self.new, changed.State(folder))
         wrong = [name for name in self.new.needs if name in self.named and self.changes[name].own or changed_wrong(base, name)]
         (self.room / "wrong").write_text("".join(f"{name}\n" for name in wrong if list((ROOT / "crates" / name / "wrong").glob("*"))), encoding="utf-8")
-        self.ways = {name: Way(self.new, name, self.built, self.seen_below(name)) for name in dict.fromkeys([*self.named, *wrong])}
+        checked = list(dict.fromkeys([*self.named, *wrong]))
+        self.find_libraries(base, {low for name in checked for low in self.new.below(name)})
+        self.ways = {name: Way(self.new, name, self.built, self.seen_below(name)) for name in checked}
         (self.room / "words").mkdir()
         for name, way in self.ways.items():
             (self.room / "words" / f"{name}.json").write_text(json.dumps(way.words(self.room)), encoding="utf-8")
             self.sources.write(way.sources)
+
+    def find_libraries(self, base, needed):
+        """Takes the libraries of the proved state that has most of those that are needed."""
+        with tempfile.TemporaryDirectory() as others:
+            for number, tree in enumerate([base, *[tree for tree in proved.states(others) if tree != base]]):
+                folder = self.room / f"libraries-{number}"
+                folder.mkdir()
+                built = Built(self.rt, tree, folder, needed)
+                if self.built is None or len(built.names) > len(self.built.names):
+                    self.built, self.seen = built, changed.changes(self.new, changed.State(folder))
+                if self.built.names >= needed:
+                    return
 
     def seen_below(self, name):
         """The crates below whose libraries don't serve, as the crate sees something that changed in them."""
