@@ -38,7 +38,7 @@ TESTS = {
     "python.py": "fallowtime", "crud.py": "fallowtime", "crud.py --relay": "fallowtime", "pymongo_programs.py": "fallowtime",
     "relay.py": "fallowtime", "readme.sh": "bson_store", "pipelines.py": "fallowtime", "sorted.py": "fallowtime", "fields.py": "fallowtime",
     "find_and.py": "fallowtime", "upserts.py": "fallowtime", "distinct.py": "fallowtime", "extended_json.py": "bson_json",
-    "program.py": "bson_store", "edits.py": None, "docs.py": None,
+    "program.py": "bson_store", "edits.py": None, "docs.py": None, "gate.py": None,
 }
 # The lines of a failed test that are printed, and the seconds by the clock after which one is ended that hangs.
 LAST, LONGEST = 30, 3600

@@ -5,14 +5,12 @@ tools/libraries.py [--at-once N] [CRATE ..]
 
 N is how many crates are proved at once: one for each processor, as far as memory goes, if it isn't given, as each takes one
 processor and up to 5 GB. All libraries are built if no CRATE is named; of a program only the proofs are checked. `rt` locks the
-folders of all crates below the one that it works in, so its runs in one checkout wait for each other, and it sums the sources of these
-crates once for each way that leads to them: minutes, in a crate of many layers. So it runs here without its locks, each crate after
-those below it, and with its sums kept. A second run in the checkout waits for the first; `rt` itself may not work there meanwhile.
+folders of all crates below the one that it works in, so its runs in one checkout wait for each other. So it runs here without its locks,
+each crate after those below it. A second run in the checkout waits for the first; `rt` itself may not work there meanwhile.
 What each crate's run said is in target/libraries/CRATE.log.
 """
 import argparse
 import fcntl
-import importlib.machinery
 import os
 import pathlib
 import re
@@ -30,21 +28,12 @@ ROOM = 5 << 30
 
 
 def run_rt(words):
-    """Runs `rt` with these words in the folder of a crate: without locks and with sums kept, if it is a program of Python."""
+    """Runs `rt` with these words in the folder of a crate: without locks, if it is a program of Python."""
     program = os.path.realpath(shutil.which("rt"))
     with open(program, "rb") as file:
         if b"python" not in file.readline():
             os.execv(program, [program, *words])
     fcntl.flock = lambda *_: None
-    load = importlib.machinery.SourceFileLoader.exec_module
-
-    def load_and_keep(self, module):
-        load(self, module)
-        if module.__name__ == "rtlib":
-            raw, sums = module.Crate.stamp, {}
-            module.Crate.stamp = lambda crate: sums[crate.folder] if crate.folder in sums else sums.setdefault(crate.folder, raw(crate))
-
-    importlib.machinery.SourceFileLoader.exec_module = load_and_keep
     sys.argv = [program, *words]
     runpy.run_path(program, run_name="__main__")
 

@@ -5,7 +5,7 @@
 
 The libraries below the crates that are named, or all, are built into COPY/crates/NAME/out/rlib, where tools/check_over.py looks for
 them: each has the items, contracts, specs and lemmas of the crate, but every body is a call that never returns, and the files of
-proofs/ for single functions are left out. It takes a small part of the time that the proofs take. What is checked over stand-ins is a
+proofs/ for single functions are left out. It takes half of the time that the proofs take. What is checked over stand-ins is a
 help while one works and counts for nothing: a lemma is proved, but no function. Of OTHER, in which an `rt ci` is at work, libraries are
 taken that are there already, if those that they stand on are, too.
 """
