@@ -45,8 +45,9 @@ KIT = proved.KIT
 # What a check takes of the memory, in bytes, over libraries and over sources, and how often is looked for room, in seconds.
 ROOM = {"libraries": 4 << 30, "sources": 6 << 30}
 PAUSE = 2
-# How many lines are printed of what is said of a crate that isn't proved.
+# How many lines are printed of what is said of a crate that isn't proved, and which lines aren't.
 LAST = 60
+UNTOLD = re.compile(r"^(statements|logic) |: proved$")
 PRINTING = threading.Lock()
 
 
@@ -252,7 +253,7 @@ class Proofs:
         how = f"over {len(way.sources)} crates as sources" if way.sources else "over libraries"
         say(f"{name}: {'NOT PROVED: ' + fault if fault else 'proved'} {how}, {functions} functions, {time.time() - began:.0f} s")
         if fault:
-            say("\n".join(text.rstrip().split("\n")[-LAST:]))
+            say("\n".join([line for line in text.split("\n") if line and not UNTOLD.search(line)][-LAST:]))
         elif way.key(self.rt, self.crates[name], self.room) == key:
             proved.note_verdict(key)
         return not fault
@@ -279,9 +280,12 @@ class Proofs:
 
     def fault_of_proof(self, crate, way):
         words = ["check", *way.words(self.room), "--links", f"{crate.name}="]
-        if not way.sources:
-            return "the prover refuses it" if crate.prove(words) else ""
-        return self.fault_over_sources(crate, words)
+        if way.sources:
+            return self.fault_over_sources(crate, words)
+        if not crate.prove(words):
+            return ""
+        crate.out.seek(0)
+        return refused(crate.name, crate.out.read())
 
     def fault_over_sources(self, crate, words):
         """The same over sources: each function of the crate is asked for, and has to be reported as proved."""
@@ -296,10 +300,13 @@ class Proofs:
             asked = [each for each in asked if each not in lacks]
         crate.out.write(done.stdout)
         reported = re.findall(rf"(?m)^fn {crate.name}::(\S+): (.*)$", done.stdout)
-        if done.returncode or not reported and asked:
-            return "the prover refuses it"
-        left = [function for function, verdict in reported if verdict != "proved"]
-        return f"not proved: {' '.join(left)}" if left else ""
+        is_proved = all(verdict == "proved" for _, verdict in reported) and (reported or not asked)
+        return "" if is_proved and not done.returncode else refused(crate.name, done.stdout)
+
+
+def refused(name, said):
+    """That the prover refuses a crate, and the functions that it doesn't prove."""
+    return "the prover refuses it" + "".join(f", {function}" for function in re.findall(rf"(?m)^fn {name}::(\S+): (?!proved$)", said))
 
 
 def changed_wrong(base, name):
