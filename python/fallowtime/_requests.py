@@ -11,7 +11,7 @@ from ._encode import encode_document, encode_text, encode_value, test_document
 from ._errors import (CONFLICT, DOLLAR_KEY, NOT_PARSED, TWO_VALUES, DuplicateKeyError, InvalidWriteError, Refused,
                       WriteError)
 from ._part import WHOLE, Part
-from ._query import encode_query, ids_of, is_number, is_one_look
+from ._query import asks_for_id, encode_query, ids_of, is_numeral, is_one_look
 from ._reader import Reader
 from ._results import UpdateResult
 from ._session import Session
@@ -34,11 +34,12 @@ OF_REFERENCES = frozenset(["$ref", "$id", "$db"])
 class Selection:
     """A query that was read, which asks for the trees of the documents that it selects, or of a part of them."""
 
-    __slots__ = ("query", "is_one_look", "_fetch")
+    __slots__ = ("query", "is_by_id", "are_whole", "_fetch")
 
-    def __init__(self, query: str, is_one_look: bool, fetch: Callable[[Part], List[Tree]]) -> None:
-        # As the program reads it, and whether it is one look into the index on `_id`.
-        self.query, self.is_one_look = query, is_one_look
+    def __init__(self, query: str, is_by_id: bool, are_whole: bool, fetch: Callable[[Part], List[Tree]]) -> None:
+        # As the program reads it; whether it asks for an `_id` that the program's index serves, if it can serve it at all;
+        # and whether the documents come by one look for their `_id`, as a whole, whatever fields are wanted.
+        self.query, self.is_by_id, self.are_whole = query, is_by_id, are_whole
         self._fetch = fetch
 
     def __call__(self, part: Part) -> List[Tree]:
@@ -77,11 +78,37 @@ class Requests:
     def _selection(self, query: Document) -> Selection:
         """A query that is read here."""
         test_document(query)
-        if is_one_look(query) and not is_number(query["_id"]):
-            own = encode_value(query["_id"])
-            return Selection('{"_id":%s}' % own, True, lambda part: part.of(self._got(own)))
         text = encode_query(query)
-        return Selection(text, False, lambda part: self._ask_part(text, part))
+        if is_one_look(query):
+            ids = ids_of(query["_id"])
+            return Selection(text, False, True, lambda part: part.of(self._with_ids(text, ids)))
+        is_by_id = asks_for_number(query) and self._session.has_indexes
+
+        def fetch(part: Part) -> List[Tree]:
+            self._prepare(query)
+            return self._ask_part(text, part)
+
+        return Selection(text, is_by_id, False, fetch)
+
+    def _with_ids(self, query: str, ids: List[str]) -> List[Tree]:
+        """The trees of the documents with these `_id`s, which are all that a query selects."""
+        with self._session.lock:
+            found = [tree for own in ids for tree in self._got(own)]
+            # Which of several came first into the collection the program alone knows.
+            return found if len(found) < 2 else self._ask_part(query, WHOLE)
+
+    def _prepare(self, query: Document) -> None:
+        """Makes an index on `_id`, once in the life of the store, if a query asks for a number there, which may be written
+        in many ways, so that the program reads few documents. Without an index it reads all, with the same answer."""
+        indexed = self._store._indexed_by_id
+        if not asks_for_number(query) or self._name in indexed or not self._session.has_indexes:
+            return
+        try:
+            self._ask("index", '"_id"')
+        except Refused as refused:
+            if refused.kind != "Memory":
+                raise
+        indexed.add(self._name)
 
     def _got(self, own: str) -> List[Tree]:
         """The tree of the document with this `_id`, if there is one."""
@@ -151,6 +178,11 @@ class Requests:
 
     def _result(self, answer: Any) -> UpdateResult:
         return update_result(answer, self._decoder)
+
+
+def asks_for_number(query: Document) -> bool:
+    """Whether a query is one for an `_id` alone that is a number."""
+    return asks_for_id(query) and is_numeral(query["_id"])
 
 
 def update_result(answer: Any, decoder: Decoder) -> UpdateResult:
