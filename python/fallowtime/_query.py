@@ -10,8 +10,8 @@ from typing import Any, Callable, Dict, List
 from ._encode import RESERVED, encode_text, encode_value
 from ._values import Code, ObjectId, Regex, Symbol, is_foreign, options_of
 
-# Classes of most `_id`s that are written in one way, or two.
-PLAIN = frozenset([str, ObjectId])
+# Classes of most `_id`s: those that are written in one way, or two, and those that are written in many.
+PLAIN, NUMBERS = frozenset([str, ObjectId]), frozenset([int, float])
 JOINING = frozenset(["$and", "$or", "$nor"])
 # The options of a pattern that the program takes.
 _OPTIONS = frozenset("imsux")
@@ -193,7 +193,13 @@ def is_one_look(query: "Mapping[str, Any]") -> bool:
     """Whether a query is one for an `_id` alone whose documents are those with the `ids_of` its value."""
     if len(query) == 1 and type(query.get("_id")) in PLAIN:
         return True
-    return asks_for_id(query) and not has_many_ids(query["_id"])
+    return not asks_for_plain_number(query) and asks_for_id(query) and not has_many_ids(query["_id"])
+
+
+def asks_for_plain_number(query: "Mapping[str, Any]") -> bool:
+    """Whether a query is one for an `_id` alone that is an `int` or a `float`. This is the first question of most requests,
+    so it is a quick one."""
+    return len(query) == 1 and type(query.get("_id")) in NUMBERS
 
 
 def has_many_ids(value: Any) -> bool:

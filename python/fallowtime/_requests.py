@@ -10,8 +10,8 @@ from ._distinct import distinct_values, may_name_place
 from ._encode import encode_document, encode_text, encode_value, test_document
 from ._errors import (CONFLICT, DOLLAR_KEY, NOT_PARSED, TWO_VALUES, DuplicateKeyError, InvalidWriteError, Refused,
                       WriteError)
-from ._part import WHOLE, Part
-from ._query import asks_for_id, encode_query, ids_of, is_numeral, is_one_look
+from ._part import FIRST, WHOLE, Part
+from ._query import asks_for_id, asks_for_plain_number, encode_query, ids_of, is_numeral, is_one_look
 from ._reader import Reader
 from ._results import UpdateResult
 from ._session import Session
@@ -27,6 +27,8 @@ Found = Optional[Tuple[str, Tree]]
 CONFLICTING = "meets another path"
 # Classes of `_id`s that are no documents, as most are.
 PLAIN = (int, str, ObjectId, float, bytes)
+# The part that most requests want.
+OF_FIRST = FIRST.text()
 # Keys of an `_id` that is a reference, which begin with `$` and may.
 OF_REFERENCES = frozenset(["$ref", "$id", "$db"])
 
@@ -101,7 +103,7 @@ class Requests:
         """Makes an index on `_id`, once in the life of the store, if a query asks for a number there, which may be written
         in many ways, so that the program reads few documents. Without an index it reads all, with the same answer."""
         indexed = self._store._indexed_by_id
-        if not asks_for_number(query) or self._name in indexed or not self._session.has_indexes:
+        if self._name in indexed or not self._session.has_indexes or not asks_for_number(query):
             return
         try:
             self._ask("index", '"_id"')
@@ -116,7 +118,7 @@ class Requests:
         return [] if answer is None else [answer["document"]]
 
     def _ask_part(self, query: str, part: Part) -> List[Tree]:
-        text = part.text()
+        text = OF_FIRST if part is FIRST else part.text()
         places = [query, text] if text else [query] if query != "{}" else []
         return list(self._ask("find", *places)["documents"])
 
@@ -135,7 +137,8 @@ class Requests:
         Extended JSON, and is asked for by its `_id`."""
         test_document(query)
         if not is_one_look(query):
-            trees = self._selection(query)(part.first())
+            self._prepare(query)
+            trees = self._ask_part(encode_query(query), part.first())
             return (self._own_of(trees[0]), trees[0]) if trees else None
         with self._session.lock:
             for own in ids_of(query["_id"]):
@@ -182,7 +185,7 @@ class Requests:
 
 def asks_for_number(query: Document) -> bool:
     """Whether a query is one for an `_id` alone that is a number."""
-    return asks_for_id(query) and is_numeral(query["_id"])
+    return asks_for_plain_number(query) or asks_for_id(query) and is_numeral(query["_id"])
 
 
 def update_result(answer: Any, decoder: Decoder) -> UpdateResult:
