@@ -11,7 +11,7 @@ table whose rows have different numbers of cells; a page over 150 lines without 
 heading that isn't there, or to anything outside the repository; a row that stands in two tables; a crate without a page or without
 its line in ARCHITECTURE; a refusal without its line in ERRORS; a decision that is cited anywhere by a name that it hasn't, or has
 no reason; a page that a script, a test or a page names by a path where it isn't; a command that only one of COMMANDS and `--help`
-has; a signature in CALLS that no source has, or a call of a store that isn't there.
+has, or that README doesn't name; a signature in CALLS that no source has, or a call of a store that isn't there.
 """
 import pathlib
 import re
@@ -108,15 +108,16 @@ def headings(page):
     return {slug(line.lstrip("#").strip()) for _, line in prose(page) if line.startswith("#")}
 
 
-def wrong_links(page):
+def wrong_links(page, root=ROOT):
+    """Links of a page to what isn't below a folder."""
     for number, line in prose(page):
         for target in re.findall(r"\]\(([^)\s]+)\)", re.sub(r"`[^`]*`", "", line)):
             if "://" in target:
                 continue
             path, _, name = target.partition("#")
             there = (page.parent / path).resolve() if path else page
-            if ROOT not in there.parents:
-                yield number, f"a link to {target}, outside the repository"
+            if root not in there.parents:
+                yield number, f"a link to {target}, outside of {root.name}"
             elif not there.exists():
                 yield number, f"a link to {target}, which isn't there"
             elif name and name not in headings(there):
@@ -219,6 +220,10 @@ def wrong_commands():
             yield page, 1, f"the command {name}, which {program} hasn't"
         for name in sorted(names - shown):
             yield page, 1, f"no command {name}, which {program} has"
+    first, commands = ROOT / "README.md", {row[0] for row in command_table.rows("Both", "CommandLine", "Script")}
+    listed = re.findall(r"`([a-z-]+)`", re.search(r"^## Commands\n(.*?)^#", first.read_text(), re.M | re.S)[1])
+    for name in sorted(commands - {"version", *listed}):
+        yield first, 1, f"no command {name} in the section on commands"
     lines = re.search(r"^### Lines over one opening\n(.*?)^#", page.read_text(), re.M | re.S)[1]
     for name, _, _ in command_table.rows("Both", "Session"):
         if f'["{name}"' not in lines:
@@ -279,4 +284,5 @@ def main():
     sys.exit(bool(wrong))
 
 
-main()
+if __name__ == "__main__":
+    main()
