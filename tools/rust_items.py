@@ -11,6 +11,9 @@ NAME = re.compile(r"[A-Za-z_]\w*$")
 DECLARES = ("struct", "enum", "trait", "type", "static", "union", "mod", "macro_rules", "const", "ghost")
 IN_HEADS = ("impl", "trait", "for", "pub", "where", "unsafe", "derive")
 COMMENTS = ("//", "/*")
+# Names of std in the head of an impl, by which nobody finds it who doesn't have one of its other names, too.
+OF_STD = {"AllocError", "AllocFailed", "AllocGlobal", "Clone", "Copy", "Debug", "Default", "Display", "Drop", "Eq", "Error", "From", "Global", "Hash",
+          "IntoIterator", "Iterator", "Model", "Option", "Ord", "PartialEq", "PartialOrd", "Read", "Result", "String", "TryFrom", "Vec", "Write"}
 
 
 def tokens_of(text):
@@ -50,6 +53,13 @@ def parts_of(text):
         else:
             part += character
     return [part for part in [*parts, part] if part.strip()]
+
+
+def names_in_head(head):
+    """The names of an impl or a trait: those that the repository may have declared, or all if there is none."""
+    names = [word for word in head if NAME.match(word) and word not in IN_HEADS]
+    own = [name for name in names if name[0].isupper() and len(name) > 1 and name not in OF_STD]
+    return tuple(own or names)
 
 
 class Reader:
@@ -148,7 +158,7 @@ class Reader:
             opening = closing(self.tokens, opening) if self.words[opening] in "([" else opening + 1
         head = self.words[start:opening]
         stop = closing(self.tokens, opening) if self.words[opening] == "{" else opening + 1
-        self.found.append((tuple(word for word in head if NAME.match(word) and word not in IN_HEADS), " ".join(head)))
+        self.found.append((names_in_head(head), " ".join(head)))
         if self.words[opening] == "{":
             self.walk(opening + 1, stop - 1, self.words[at] == "trait" or "for" in head, " ".join(head))
         return stop
