@@ -12,8 +12,8 @@ Without --long a test does what a minute of the processor holds: fewer random ro
 each kind of case. All random numbers follow from one seed, another one for each run. If a test fails it is printed, and --seed repeats it.
 
 The program acts by its name, so it is tried under its three names, as links in a folder that is deleted. Each test has a folder of its
-own for temporary files there, and a session of its own, which is ended as a whole. Without what the tests call (tests/needs.sh), and
-without the program, nothing is run.
+own for temporary files, which is deleted, too, unless the test fails and leaves something there, and a session of its own, which is ended
+as a whole. Without what the tests call (tests/needs.sh), and without the program, nothing is run.
 """
 import argparse
 import collections
@@ -82,11 +82,9 @@ class Run:
         before = ["/usr/bin/python3"] if name.endswith(".py") else []
         return [*before, f"tests/{name}", *([self.folder / TESTS[test]] if TESTS[test] else []), *more]
 
-    def start(self, test, printed):
+    def start(self, test, temporary, printed):
         """Starts a test, as the leader of a session of its own."""
-        temporary = self.folder / f"in {test}".replace(" ", "-")
-        temporary.mkdir()
-        environment = {**os.environ, "TMPDIR": str(temporary), "TEST_SEED": str(self.words.seed), "TEST_LONG": "1" if self.words.long else ""}
+        environment = {**os.environ, "TMPDIR": temporary, "TEST_SEED": str(self.words.seed), "TEST_LONG": "1" if self.words.long else ""}
         with self.lock:
             started = subprocess.Popen(self.command(test), cwd=ROOT, env=environment, stdin=subprocess.DEVNULL, stdout=printed,
                                        stderr=subprocess.STDOUT, start_new_session=True)
@@ -101,8 +99,11 @@ class Run:
 
     def try_test(self, test):
         """Runs a test to its end; says what came of it, and what it took."""
+        temporary = tempfile.mkdtemp(prefix=f"{test.split('.')[0]}-")
+        # Some tests start the program as another user.
+        os.chmod(temporary, 0o755)
         with open(self.folder / f"{test} printed", "w+b") as printed:
-            began, started = time.monotonic(), self.start(test, printed)
+            began, started = time.monotonic(), self.start(test, temporary, printed)
             limit = threading.Timer(LONGEST * (10 if self.words.long else 1), kill, [started.pid])
             limit.start()
             _, status, used = os.wait4(started.pid, 0)
@@ -111,7 +112,11 @@ class Run:
             self.end(started.pid)
             printed.seek(0)
             last = printed.read().decode(errors="replace").splitlines()[-LAST:]
-        shutil.rmtree(self.folder / f"in {test}".replace(" ", "-"), ignore_errors=True)
+        left = os.listdir(temporary) if status and not ENDED.is_set() else []
+        if left:
+            last.append(f"(what it left is in {temporary})")
+        else:
+            shutil.rmtree(temporary, ignore_errors=True)
         took = f"{time.monotonic() - began:.0f} s, {used.ru_utime + used.ru_stime:.1f} s of the processor"
         with self.lock:
             if ENDED.is_set():

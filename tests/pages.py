@@ -4,8 +4,8 @@ changes in it, over files of many sorts.
 
     tests/pages.py PROGRAM [FILES [FIRST]]
 
-PROGRAM is fallowtime, under whatever name. FILES is how many are made, 50 if not given; FIRST is the number of the first, 0 if not given:
-a file and its questions follow from its number. Each question is asked twice. Beside a log of more than 32 MiB the program reads the
+PROGRAM is fallowtime, under whatever name. FILES is how many are made, 14 if not given (50 in a long run), of each kind at least one; FIRST is the number
+of the first, 0 if not given: a file and its questions follow from its number. Each question is asked twice. Beside a log of more than 32 MiB the program reads the
 whole file and opens it as a database, so a copy of the files has zeros behind its log, which no reader takes for a part of it. Both
 answers have to be the same, byte for byte; only of a file with a damaged byte may pages answer where the whole file is refused. Nothing
 may be written. Then the file and a copy are changed, document by document: the file by commands, which need few pages, and the copy by
@@ -34,7 +34,7 @@ atexit.register(shutil.rmtree, FOLDER, ignore_errors=True)
 # The name under which the program is started says which one it is.
 PROGRAM = str(FOLDER / "fallowtime")
 shutil.copy(sys.argv[1], PROGRAM)
-FILES = int(sys.argv[2]) if len(sys.argv) > 2 else 50
+FILES = int(sys.argv[2]) if len(sys.argv) > 2 else amounts.amount(14, 50)
 FIRST = int(sys.argv[3]) if len(sys.argv) > 3 else amounts.seed(0)
 os.chdir(FOLDER)
 # The longest that a call may take here.
@@ -116,7 +116,7 @@ def leave_older_key(file, name):
 def make(number):
     """A file, what kind it is of, the size of its pages and its collections."""
     rng = random.Random(number)
-    file, kind, size = f"f{number}.db", rng.choice(KINDS), rng.choice(SIZES)
+    file, kind, size = f"f{number}.db", KINDS[number % len(KINDS)], rng.choice(SIZES)
     more = [f"PRAGMA page_size={size}"]
     # A session doesn't open the two that aren't plain.
     plain = rng.random() if kind != "killed" else 1

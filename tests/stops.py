@@ -52,9 +52,9 @@ NAMES = ("shop.db", "shop.db-wal")
 CALLS = "openat,pwrite64,ftruncate,fsync,fdatasync,unlink,rename"
 SECTOR = 512
 # How often the power is lost before a call, each time with other writes that are kept.
-LOSSES = 3
+LOSSES = amounts.amount(1, 3)
 # How many stopped makings of a file are changed by a command that is stopped, too.
-AGAIN = 12
+AGAIN = amounts.amount(4, 12)
 
 
 def document(number, *fields):
