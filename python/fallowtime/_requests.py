@@ -83,7 +83,7 @@ class Requests:
         text = encode_query(query)
         if is_one_look(query):
             ids = ids_of(query["_id"])
-            return Selection(text, False, True, lambda part: part.of(self._with_ids(text, ids)))
+            return Selection(text, False, True, lambda part: self._with_ids(text, ids, part))
         is_by_id = asks_for_number(query) and self._session.has_indexes
 
         def fetch(part: Part) -> List[Tree]:
@@ -92,12 +92,12 @@ class Requests:
 
         return Selection(text, is_by_id, False, fetch)
 
-    def _with_ids(self, query: str, ids: List[str]) -> List[Tree]:
-        """The trees of the documents with these `_id`s, which are all that a query selects."""
+    def _with_ids(self, query: str, ids: List[str], part: Part) -> List[Tree]:
+        """The trees of a part of the documents with these `_id`s, which are all that a query selects."""
         with self._session.lock:
             found = [tree for own in ids for tree in self._got(own)]
-            # Which of several came first into the collection the program alone knows.
-            return found if len(found) < 2 else self._ask_part(query, WHOLE)
+            # Which of several comes first the program alone knows.
+            return part.of(found) if len(found) < 2 else self._ask_part(query, part)
 
     def _prepare(self, query: Document) -> None:
         """Makes an index on `_id`, once in the life of the store, if a query asks for a number there, which may be

@@ -196,6 +196,8 @@ class Looking(WithFolder):
         kinds.insert_many([{"_id": Decimal("NaN")}, {"_id": fallowtime.Symbol("a")}, {"_id": "a"}])
         self.assertEqual(counts(kinds.replace_one({"_id": float("nan")}, {"_id": float("nan"), "n": 1})), (1, 1, None))
         self.assert_same([found["_id"] for found in kinds.find({"_id": "a"})], [fallowtime.Symbol("a"), "a"])
+        kinds.update_one({"_id": "a"}, {"$set": {"n": 2}})
+        self.assert_same([found["_id"] for found in kinds.find({"_id": "a"}).sort("n").limit(1)], ["a"])
         self.assertRaises(fallowtime.WriteError, kinds.replace_one, {"_id": Decimal("NaN")}, {"_id": Decimal("1")})
 
     def test_one_index_for_numbers(self):
