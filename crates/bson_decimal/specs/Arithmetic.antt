@@ -1,0 +1,97 @@
+-- Arithmetic of decimals of 128 bits (IEEE 754-2008, 5.3.1, 5.4.1, 5.5.1): the exact result, with the preferred exponent if there
+-- is room for it, and else the decimal that is nearest to it, to the even one at a tie.
+use Rattle.std.specs.Prelude.{ℤ, pos, negsuc, ℕ, zero, suc, ◌+◌, ◌-◌, ◌*◌, ◌/◌, ◌%◌, ◌^◌, ◌<◌, ◌==◌, nat_lt, nat_le, Bool, true, false, if◌then◌else◌, not, min}
+use Rattle.std.specs.Ordering.{nat_cmp, match_ordering}
+use Rattle.bson_decimal.specs.declared.decimal.Decimal.{Decimal}
+use Rattle.bson_decimal.specs.declared.decimal.Decimal.TheVariants.{NotANumber, Infinite, Finite}
+
+-- what holds of every decimal: 34 digits, and an exponent with the bias 6176
+abbrev pub IsDecimal : Decimal → Type 0
+IsDecimal NotANumber = Unit {0}
+IsDecimal (Infinite s) = Unit {0}
+IsDecimal (Finite s c e) = (c < 10 ^ 34) × (e < 12288)
+
+abbrev pub of_integer : ℤ → Decimal
+of_integer (pos n) = Finite false n 6176
+of_integer (negsuc n) = Finite true (n + 1) 6176
+
+-- ---- the decimal that is nearest to a number
+
+-- a quotient with a remainder, to the nearest whole number, and to the even one at a tie
+abbrev pub half_even : ℕ → ℕ → ℕ → ℕ
+half_even quotient rest d = quotient + match_ordering (nat_cmp (2 * rest) d) 0 (quotient % 2) 1
+
+-- the whole number that is nearest to n / d
+unfoldable pub nearest : ℕ → ℕ → ℕ
+nearest n d = half_even (n / d) (n % d) d
+
+-- how many digits of n / d are cut off: at least k, and no more than are needed for 34 to be left; n is enough steps
+abbrev pub cut_from : ℕ → ℕ → ℕ → ℕ → ℕ
+cut_from zero n d k = k
+cut_from (suc more) n d k = if nat_lt (nearest n (d * 10 ^ k)) (10 ^ 34) then k else cut_from more n d (suc k)
+
+-- with k zeros more and the greatest exponent, if there is room
+abbrev pub fold_down : Bool → ℕ → ℕ → Decimal
+fold_down s c k = if nat_lt (c * 10 ^ k) (10 ^ 34) then Finite s (c * 10 ^ k) 12287 else Infinite s
+
+abbrev pub clamp : Bool → ℕ → ℕ → Decimal
+clamp s c e = if nat_le e 12287 then Finite s c e else fold_down s c (e - 12287)
+
+abbrev pub cut_digits : Bool → ℕ → ℕ → ℕ → ℕ → Decimal
+cut_digits s n d x k = clamp s (nearest n (d * 10 ^ k)) (x + k - 12352)
+
+-- the decimal that is nearest to n / d times 10^x. To the exponent x, beside its bias, 12352 is added, so that none is under 0
+abbrev pub nearest_decimal : Bool → ℕ → ℕ → ℕ → Decimal
+nearest_decimal s n d x = cut_digits s n d x (cut_from n n d (12352 - x))
+
+abbrev pub decimal_of : Bool → ℕ → ℕ → Decimal
+decimal_of s n x = nearest_decimal s n 1 x
+
+-- ---- products
+
+-- whether two signs differ
+abbrev pub signs_differ : Bool → Bool → Bool
+signs_differ s t = if s then not t else t
+
+-- an infinity times c, and c divided by 0
+abbrev pub infinity_times : Bool → ℕ → Decimal
+infinity_times s c = if c == 0 then NotANumber else Infinite s
+
+abbrev pub multiply : Decimal → Decimal → Decimal
+multiply NotANumber b = NotANumber
+multiply (Infinite s) NotANumber = NotANumber
+multiply (Infinite s) (Infinite t) = Infinite (signs_differ s t)
+multiply (Infinite s) (Finite t d f) = infinity_times (signs_differ s t) d
+multiply (Finite s c e) NotANumber = NotANumber
+multiply (Finite s c e) (Infinite t) = infinity_times (signs_differ s t) c
+multiply (Finite s c e) (Finite t d f) = decimal_of (signs_differ s t) (c * d) (e + f + 6176)
+
+-- ---- sums
+
+-- the sum of two numbers that are counted in the same unit, 10^x; no number, of a positive and a negative, is positive
+abbrev pub signed_sum : Bool → ℕ → Bool → ℕ → ℕ → Decimal
+signed_sum s m t n x =
+    if signs_differ s t then match_ordering (nat_cmp m n) (decimal_of t (n - m) x) (decimal_of false 0 x) (decimal_of s (m - n) x)
+    else decimal_of s (m + n) x
+
+-- both are counted in the lesser exponent: one of the differences is 0
+abbrev pub add : Decimal → Decimal → Decimal
+add NotANumber b = NotANumber
+add (Infinite s) NotANumber = NotANumber
+add (Infinite s) (Infinite t) = if signs_differ s t then NotANumber else Infinite s
+add (Infinite s) (Finite t d f) = Infinite s
+add (Finite s c e) NotANumber = NotANumber
+add (Finite s c e) (Infinite t) = Infinite t
+add (Finite s c e) (Finite t d f) = signed_sum s (c * 10 ^ (e - f)) t (d * 10 ^ (f - e)) (min e f + 12352)
+
+-- with the other sign; taking b away from a is to add it so
+abbrev pub negate : Decimal → Decimal
+negate NotANumber = NotANumber
+negate (Infinite s) = Infinite (not s)
+negate (Finite s c e) = Finite (not s) c e
+
+-- without its sign
+abbrev pub absolute : Decimal → Decimal
+absolute NotANumber = NotANumber
+absolute (Infinite s) = Infinite false
+absolute (Finite s c e) = Finite false c e

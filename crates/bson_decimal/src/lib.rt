@@ -1,0 +1,13 @@
+//! Arithmetic of decimals of 128 bits, as IEEE 754-2008 has it.
+#![tactic(auto)]
+
+mod decimal;
+mod products;
+mod rounding;
+mod sticky;
+mod sums;
+mod wide;
+
+pub use decimal::{Decimal, absolute, from_integer, negate};
+pub use products::multiply;
+pub use sums::{add, subtract};
