@@ -9,7 +9,7 @@ use Rattle.std.proofs.lemmas.Bool.{cases_lt}
 use Rattle.std.proofs.lemmas.Bool.Decides.{nat_tests}
 use Rattle.std.proofs.lemmas.Nat.{mul-le, pow-add, le-div}
 use Rattle.bson_decimal.specs.Arithmetic.{nearest, clamp, decimal_of, signed_sum}
-use Rattle.bson_decimal.specs.Wides.{sticky_quotient}
+use Rattle.bson_decimal.specs.Wides.{sticky, sticky_quotient}
 use Rattle.bson_decimal.proofs.RoundLemmas.{whole_cut_from, cut_whole, decimal_is, ends_at, nearest_least, nearest_nothing, some_power}
 use Rattle.bson_decimal.proofs.SumLemmas.{nearest_close}
 
@@ -124,28 +124,28 @@ close_scaled s n m x g b r k hx hg en em great small hr one none tie under =
     close e he = ap (λ n. nearest n (10 ^ g * (10 * e))) en ∙ nearest_close b (10 ^ g) r e k (some_power g) he hr one none tie under ∙ ap (λ n. nearest n (10 * e)) (sym em)
 
 -- what is added to the whole part
-unfoldable addend : ℕ → ℕ → ℕ
+unfoldable pub addend : ℕ → ℕ → ℕ
 addend r q = if r == 0 then 0 else if q % 5 == 0 then 1 else 0
 
-addend_none : (r q : ℕ) → r ≡ 0 → addend r q ≡ 0
+pub addend_none : (r q : ℕ) → r ≡ 0 → addend r q ≡ 0
 unfolding addend
 addend_none r q h = let t : (r == 0) ≡ true = grind (arith, nat_tests) in ap (λ b. if b then 0 else if q % 5 == 0 then 1 else 0) t
 
-addend_tie : (r q : ℕ) → 0 < r → q % 5 ≡ 0 → addend r q ≡ 1
+pub addend_tie : (r q : ℕ) → 0 < r → q % 5 ≡ 0 → addend r q ≡ 1
 unfolding addend
 addend_tie r q h f =
     let t : (r == 0) ≡ false = grind (arith, nat_tests) in
     let v : (q % 5 == 0) ≡ true = grind (arith, nat_tests) in
     ap (λ b. if b then 0 else if q % 5 == 0 then 1 else 0) t ∙ ap (λ b. if b then 1 else 0) v
 
-addend_off : (r q : ℕ) → 0 < r → 0 < q % 5 → addend r q ≡ 0
+pub addend_off : (r q : ℕ) → 0 < r → 0 < q % 5 → addend r q ≡ 0
 unfolding addend
 addend_off r q h f =
     let t : (r == 0) ≡ false = grind (arith, nat_tests) in
     let v : (q % 5 == 0) ≡ false = grind (arith, nat_tests) in
     ap (λ b. if b then 0 else if q % 5 == 0 then 1 else 0) t ∙ ap (λ b. if b then 1 else 0) v
 
-addend_one : (r q : ℕ) → addend r q ≤ 1
+pub addend_one : (r q : ℕ) → addend r q ≤ 1
 unfolding addend
 addend_one r q = by (r == 0) (q % 5 == 0)
   where
@@ -153,6 +153,10 @@ addend_one r q = by (r == 0) (q % 5 == 0)
     by true c = omega arith
     by false true = omega arith
     by false false = omega arith
+
+pub sticky_addend : (q r : ℕ) → sticky q r ≡ q + addend r q
+unfolding addend
+sticky_addend q r = refl
 
 sticky_is : (d p : ℕ) → sticky_quotient d p ≡ d / p + addend (d % p) (d / p)
 unfolding addend

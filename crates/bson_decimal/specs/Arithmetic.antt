@@ -95,3 +95,27 @@ abbrev pub absolute : Decimal → Decimal
 absolute NotANumber = NotANumber
 absolute (Infinite s) = Infinite false
 absolute (Finite s c e) = Finite false c e
+
+-- ---- quotients
+
+-- how many zeros c needs behind it for d to divide it: the fewest from z on, and `more` at the most
+abbrev pub zeros_from : ℕ → ℕ → ℕ → ℕ → ℕ
+zeros_from zero c d z = z
+zeros_from (suc more) c d z = if c * 10 ^ z % d == 0 then z else zeros_from more c d (suc z)
+
+-- with 68 zeros any quotient but 0 has more digits than a decimal
+unfoldable pub zeros_to_divide : ℕ → ℕ → ℕ
+zeros_to_divide c d = zeros_from 68 c d 0
+
+-- c / d times 10^x: if it is exact, the exponent is x, or as much less as the quotient has digits behind that
+abbrev pub quotient : Bool → ℕ → ℕ → ℕ → Decimal
+quotient s c d x = if d == 0 then infinity_times s c else nearest_decimal s (c * 10 ^ zeros_to_divide c d) d (x - zeros_to_divide c d)
+
+abbrev pub divide : Decimal → Decimal → Decimal
+divide NotANumber b = NotANumber
+divide (Infinite s) NotANumber = NotANumber
+divide (Infinite s) (Infinite t) = NotANumber
+divide (Infinite s) (Finite t d f) = Infinite (signs_differ s t)
+divide (Finite s c e) NotANumber = NotANumber
+divide (Finite s c e) (Infinite t) = Finite (signs_differ s t) 0 0
+divide (Finite s c e) (Finite t d f) = quotient (signs_differ s t) c d (e + 18528 - f)

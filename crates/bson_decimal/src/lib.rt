@@ -3,6 +3,7 @@
 
 mod decimal;
 mod products;
+mod quotients;
 mod rounding;
 mod sticky;
 mod sums;
@@ -10,4 +11,5 @@ mod wide;
 
 pub use decimal::{Decimal, absolute, from_integer, negate};
 pub use products::multiply;
+pub use quotients::divide;
 pub use sums::{add, subtract};

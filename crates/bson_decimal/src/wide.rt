@@ -19,6 +19,18 @@ pub(crate) struct Wide {
     pub(crate) low: u128,
 }
 
+/// A number by its digits.
+pub(crate) fn wide_of(number: u128) -> Wide
+    requires { number < 10 ^ 68 }
+    ensures equal { number_of_wide result ≡ number }
+    ensures wide { IsWide result }
+{
+    Wide {
+        high: number / LIMIT,
+        low: number % LIMIT,
+    }
+}
+
 /// A power of ten.
 pub(crate) fn power_of_ten(k: u32) -> u128
     requires { k ≤ 34 }
