@@ -4,6 +4,8 @@ use Rattle.std.specs.Prelude.{ℤ, pos, negsuc, ℕ, zero, suc, ◌+◌, ◌-◌
 use Rattle.std.specs.Ordering.{nat_cmp, match_ordering}
 use Rattle.bson_decimal.specs.declared.decimal.Decimal.{Decimal}
 use Rattle.bson_decimal.specs.declared.decimal.Decimal.TheVariants.{NotANumber, Infinite, Finite}
+use Rattle.bson_decimal.specs.declared.wholes.Rounding.{Rounding}
+use Rattle.bson_decimal.specs.declared.wholes.Rounding.TheVariants.{TiesToEven, TowardZero, TowardNegative, TowardPositive}
 
 -- what holds of every decimal: 34 digits, and an exponent with the bias 6176
 abbrev pub IsDecimal : Decimal → Type 0
@@ -119,3 +121,22 @@ divide (Infinite s) (Finite t d f) = Infinite (signs_differ s t)
 divide (Finite s c e) NotANumber = NotANumber
 divide (Finite s c e) (Infinite t) = Finite (signs_differ s t) 0 0
 divide (Finite s c e) (Finite t d f) = quotient (signs_differ s t) c d (e + 18528 - f)
+
+-- ---- multiples of a power of ten
+
+-- a quotient with a remainder, or the next whole number if something is left
+abbrev pub next_unless_exact : ℕ → ℕ → ℕ
+next_unless_exact quotient rest = quotient + (if rest == 0 then 0 else 1)
+
+-- n / d as a whole number; it is negative if s is true
+abbrev pub whole : Rounding → Bool → ℕ → ℕ → ℕ
+whole TiesToEven s n d = nearest n d
+whole TowardZero s n d = n / d
+whole TowardNegative s n d = if s then next_unless_exact (n / d) (n % d) else n / d
+whole TowardPositive s n d = if s then n / d else next_unless_exact (n / d) (n % d)
+
+-- a multiple of 10^unit, exactly: one of the differences is 0
+abbrev pub round : Rounding → ℕ → Decimal → Decimal
+round r unit NotANumber = NotANumber
+round r unit (Infinite s) = Infinite s
+round r unit (Finite s c e) = decimal_of s (whole r s (c * 10 ^ (e - unit)) (10 ^ (unit - e))) (unit + 12352)

@@ -8,8 +8,10 @@ mod rounding;
 mod sticky;
 mod sums;
 mod wide;
+mod wholes;
 
 pub use decimal::{Decimal, absolute, from_integer, negate};
 pub use products::multiply;
 pub use quotients::divide;
 pub use sums::{add, subtract};
+pub use wholes::{Rounding, round};

@@ -19,7 +19,7 @@ pub(crate) const OFFSET: u32 = 12352;
 pub(crate) const BIAS: u32 = 6176;
 
 /// A quotient, or the next number, by how twice the remainder compares with the divisor.
-fn half_even(quotient: u128, half: Ordering) -> u128
+pub(crate) fn half_even(quotient: u128, half: Ordering) -> u128
     requires { quotient < 10 ^ 34 }
     ensures equal { result ≡ quotient + match_ordering half 0 (quotient % 2) 1 }
     ensures small { result ≤ 10 ^ 34 }

@@ -78,7 +78,7 @@ fn signed_sum(s: bool, m: Wide, t: bool, n: Wide, exponent: u32) -> Decimal
 }
 
 /// The sum of two finite decimals, of which the first has the greater exponent, greater by `k`.
-fn align(s: bool, c: u128, k: u32, t: bool, d: u128, f: u32) -> Decimal
+pub(crate) fn align(s: bool, c: u128, k: u32, t: bool, d: u128, f: u32) -> Decimal
     requires first { c < 10 ^ 34 }
     requires second { d < 10 ^ 34 }
     requires range { f + k < 12288 }
