@@ -122,6 +122,16 @@ divide (Finite s c e) NotANumber = NotANumber
 divide (Finite s c e) (Infinite t) = Finite (signs_differ s t) 0 0
 divide (Finite s c e) (Finite t d f) = quotient (signs_differ s t) c d (e + 18528 - f)
 
+-- ---- remainders
+
+-- what is left of a if b is taken away as often as it goes into it, both counted in the lesser exponent; b's sign doesn't count
+abbrev pub remainder : Decimal → Decimal → Decimal
+remainder NotANumber b = NotANumber
+remainder (Infinite s) b = NotANumber
+remainder (Finite s c e) NotANumber = NotANumber
+remainder (Finite s c e) (Infinite t) = Finite s c e
+remainder (Finite s c e) (Finite t d f) = if d == 0 then NotANumber else Finite s (c * 10 ^ (e - f) % (d * 10 ^ (f - e))) (min e f)
+
 -- ---- multiples of a power of ten
 
 -- a quotient with a remainder, or the next whole number if something is left

@@ -4,6 +4,7 @@
 mod decimal;
 mod products;
 mod quotients;
+mod remainders;
 mod rounding;
 mod sticky;
 mod sums;
@@ -13,5 +14,6 @@ mod wholes;
 pub use decimal::{Decimal, absolute, from_integer, negate};
 pub use products::multiply;
 pub use quotients::divide;
+pub use remainders::remainder;
 pub use sums::{add, subtract};
 pub use wholes::{Rounding, round};
