@@ -27,7 +27,21 @@ def context(rounding=decimal.ROUND_HALF_EVEN):
 
 
 PLAIN = context()
-OPERATIONS = {"add": PLAIN.add, "subtract": PLAIN.subtract, "multiply": PLAIN.multiply, "divide": PLAIN.divide}
+
+
+def remainder(first, second):
+    """By whole numbers, as Python's own wants a quotient of at most 34 digits."""
+    if first.is_nan() or second.is_nan() or first.is_infinite() or second == 0:
+        return Decimal("NaN")
+    if second.is_infinite():
+        return first
+    (sign, digits, exponent), (_, others, other) = first.as_tuple(), second.as_tuple()
+    least = min(exponent, other)
+    whole, by = (int("".join(map(str, ds))) * 10 ** (e - least) for ds, e in ((digits, exponent), (others, other)))
+    return Decimal((sign, tuple(map(int, str(whole % by))), least))
+
+
+OPERATIONS = {"add": PLAIN.add, "subtract": PLAIN.subtract, "multiply": PLAIN.multiply, "divide": PLAIN.divide, "remainder": remainder}
 
 
 def with_places(word, places, value):
@@ -78,7 +92,7 @@ def random_exponent():
 def random_pair(word):
     first, second, exponent = coefficient(), coefficient(), random_exponent()
     near = random.randint(-75, 75)
-    if word in ("add", "subtract"):
+    if word in ("add", "subtract", "remainder"):
         other = exponent + near
     elif word == "multiply":
         other = random.choice([-exponent, LEAST - exponent, GREATEST - exponent, 0]) + near

@@ -1,5 +1,5 @@
 -- How many digits are cut off.
-use Rattle.std.proofs.Common.{◌≡◌, ℕ, zero, suc, ◌+◌, ◌-◌, ◌*◌, ◌/◌, ◌%◌, ◌^◌, ◌<◌, ◌≤◌, ◌⊎◌, inl, inr, Bool, true, false, if◌then◌else◌, refl, sym, ap, ◌∙◌, subst, arith, lit<, lit≤, mul_comm, mul_assoc, le_trans, lt_of_lt_of_le, mod-lt, div-add-mod', mul-le-mul_right, mul-lt-mul_of_pos_right}
+use Rattle.std.proofs.Common.{◌≡◌, ℕ, zero, suc, ◌+◌, ◌-◌, ◌*◌, ◌/◌, ◌%◌, ◌^◌, ◌<◌, ◌≤◌, ◌⊎◌, inl, inr, Bool, true, false, if◌then◌else◌, refl, sym, ap, ◌∙◌, subst, arith, lit<, mul_assoc, le_trans, mod-lt, div-add-mod', mul-le-mul_right, mul-lt-mul_of_pos_right}
 use Rattle.std.specs.Prelude.{nat_lt}
 use Rattle.std.specs.Cmp.{nat_cmp_is, ranks}
 use Rattle.std.specs.Ordering.{MatchOrdering, nat_cmp, match_ordering}
@@ -9,7 +9,7 @@ use Rattle.std.proofs.Math.Nat.{pow-suc, pow-le-pow_right, div-eq_of_lt}
 use Rattle.std.proofs.lemmas.Nat.{mul-le, pow-add, le-div}
 use Rattle.std.proofs.lemmas.Bool.{cases_lt}
 use Rattle.std.proofs.lemmas.Bool.Decides.{nat_tests}
-use Rattle.bson_decimal.specs.Arithmetic.{nearest, half_even, cut_from, cut_digits, clamp, nearest_decimal, decimal_of}
+use Rattle.bson_decimal.specs.Arithmetic.{nearest, cut_from, cut_digits, clamp, nearest_decimal, decimal_of}
 use Rattle.bson_decimal.proofs.RoundLemmas.{nearest_split, nearest_least, nearest_most, some_power}
 
 -- the first place from k on where f is below 10^34

@@ -1,7 +1,7 @@
 -- Long division, and quotients that are rounded.
-use Rattle.std.proofs.Common.{◌≡◌, ℕ, zero, suc, ◌+◌, ◌-◌, ◌*◌, ◌/◌, ◌%◌, ◌^◌, ◌<◌, ◌≤◌, ◌⊎◌, ◌==◌, inl, inr, Bool, true, false, if◌then◌else◌, refl, sym, ap, ◌∙◌, subst, arith, lit<, lit≤, mul_comm, mul_assoc, le_trans, lt_of_lt_of_le, mod-lt, div-add-mod', mul-le-mul_right, div-lt_iff_lt-mul, div-le_self}
-use Rattle.std.proofs.Math.Nat.{pow-suc, pow-le-pow_right}
-use Rattle.std.proofs.lemmas.Nat.{mul-le, pow-add, le-div, div-mul-add, mod-mul-add}
+use Rattle.std.proofs.Common.{◌≡◌, ℕ, zero, suc, ◌+◌, ◌-◌, ◌*◌, ◌/◌, ◌%◌, ◌^◌, ◌<◌, ◌≤◌, ◌⊎◌, ◌==◌, inl, inr, Bool, true, false, if◌then◌else◌, refl, sym, ap, ◌∙◌, subst, arith, lit<, mul_comm, mul_assoc, le_trans, mod-lt, div-add-mod', mul-le-mul_right, div-lt_iff_lt-mul}
+use Rattle.std.proofs.Math.Nat.{pow-suc}
+use Rattle.std.proofs.lemmas.Nat.{pow-add, le-div, div-mul-add, mod-mul-add}
 use Rattle.std.proofs.lemmas.Bool.{cases_lt}
 use Rattle.std.proofs.lemmas.Bool.Decides.{nat_tests}
 use Rattle.bson_decimal.specs.Arithmetic.{nearest, nearest_decimal, decimal_of, zeros_from, zeros_to_divide, quotient, infinity_times}
@@ -125,7 +125,7 @@ rounds_alike q r d i h hr great (inr none) =
     let m : q + addend r q ≡ q = omega (arith, addend_none r q z) in
     let one : 10 ^ i ≡ 1 * 10 ^ i = omega arith in
     inl (ap (λ n. nearest n (d * 10 ^ i)) whole ∙ ap (λ p. nearest (q * d) p) (mul_comm d (10 ^ i)) ∙ nearest_times q (10 ^ i) d (some_power i) h
-        ∙ ap (λ p. nearest q p) one ∙ ap (λ n. nearest n (1 * 10 ^ i)) (sym m))
+    ∙ ap (λ p. nearest q p) one ∙ ap (λ n. nearest n (1 * 10 ^ i)) (sym m))
 rounds_alike q r d zero h hr great (inl some) = inr (first, second)
   where
     first : 10 ^ 34 ≤ nearest (q * d + r) (d * 1)
@@ -140,8 +140,8 @@ rounds_alike q r d (suc i) h hr great (inl some) =
     let ten : 10 ^ suc i ≡ 10 * 10 ^ i = pow-suc 10 i ∙ mul_comm (10 ^ i) 10 in
     let one : 10 * 10 ^ i ≡ 1 * 10 ^ suc i = sym ten ∙ omega arith in
     inl (ap (λ p. nearest (q * d + r) (d * p)) ten
-        ∙ nearest_close q d r (10 ^ i) (addend r q) h (some_power i) hr (addend_one r q) (λ z. addend_none r q z) (λ s f. addend_tie r q s f) (λ s f. addend_off r q s (omega (arith, f)))
-        ∙ ap (λ p. nearest (q + addend r q) p) one)
+    ∙ nearest_close q d r (10 ^ i) (addend r q) h (some_power i) hr (addend_one r q) (λ z. addend_none r q z) (λ s f. addend_tie r q s f) (λ s f. addend_off r q s (omega (arith, f)))
+    ∙ ap (λ p. nearest (q + addend r q) p) one)
 
 quotient_is : (s : Bool) (q r d x : ℕ) → 0 < d → r < d → (0 < r → 10 ^ 34 ≤ q) → decimal_of s (sticky q r) x ≡ nearest_decimal s (q * d + r) d x
 quotient_is s q r d x h hr great =

@@ -1,10 +1,9 @@
 -- Remainders of numbers with zeros behind them.
-use Rattle.std.proofs.Common.{◌≡◌, ℕ, ◌+◌, ◌-◌, ◌*◌, ◌/◌, ◌%◌, ◌^◌, ◌<◌, ◌≤◌, ◌==◌, Bool, true, false, if◌then◌else◌, sym, ap, ◌∙◌, subst, arith, lit<, mod-eq_of_lt, div-lt_iff_lt-mul, div-add-mod', mul-le-mul_right}
+use Rattle.std.proofs.Common.{◌≡◌, ℕ, ◌-◌, ◌*◌, ◌/◌, ◌%◌, ◌^◌, ◌<◌, ◌≤◌, ◌==◌, Bool, false, if◌then◌else◌, sym, ap, ◌∙◌, subst, arith, lit<, mod-eq_of_lt, div-lt_iff_lt-mul, div-add-mod', mul-le-mul_right}
 use Rattle.std.specs.Prelude.{min}
 use Rattle.std.proofs.Math.Nat.{pow-le-pow_right}
 use Rattle.std.proofs.lemmas.Bool.Decides.{nat_tests}
 use Rattle.bson_decimal.specs.Arithmetic.{remainder}
-use Rattle.bson_decimal.specs.declared.decimal.Decimal.{Decimal}
 use Rattle.bson_decimal.specs.declared.decimal.Decimal.TheVariants.{NotANumber, Finite}
 
 -- by a greater number

@@ -8,8 +8,8 @@ mod remainders;
 mod rounding;
 mod sticky;
 mod sums;
-mod wide;
 mod wholes;
+mod wide;
 
 pub use decimal::{Decimal, absolute, from_integer, negate};
 pub use products::multiply;

@@ -63,7 +63,13 @@ fn whole(rounding: Rounding, negative: bool, c: u128, k: u32) -> u128
 }
 
 /// A quotient, or the next number, by what is left and by how twice of it compares with the divisor.
-fn round_parts(rounding: Rounding, negative: bool, quotient: u128, rest: u128, half: Ordering) -> u128
+fn round_parts(
+    rounding: Rounding,
+    negative: bool,
+    quotient: u128,
+    rest: u128,
+    half: Ordering,
+) -> u128
     requires { quotient ≤ 10 ^ 33 }
     ensures equal { result ≡ round_parts rounding negative quotient rest half }
     ensures small { result < 10 ^ 34 }

@@ -1,4 +1,4 @@
-use Rattle.std.proofs.Common.{◌≡◌, ◌-◌, ◌*◌, ◌/◌, ◌%◌, ◌^◌, ◌<◌}
+use Rattle.std.proofs.Common.{◌≡◌, ◌*◌, ◌/◌, ◌%◌, ◌^◌, ◌<◌}
 use Rattle.bson_decimal.specs.Arithmetic.{zeros_to_divide}
 use Rattle.bson_decimal.proofs.QuotientLemmas.{zeros_left}
 use Rattle.bson_decimal.proofs.quotients.long_division.Given as goal

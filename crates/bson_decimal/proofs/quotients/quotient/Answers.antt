@@ -1,4 +1,4 @@
-use Rattle.std.proofs.Common.{◌≡◌, ◌-◌, ◌∙◌, ap, arith}
+use Rattle.std.proofs.Common.{◌-◌, ◌∙◌, ap, arith}
 use Rattle.bson_decimal.specs.Arithmetic.{decimal_of}
 use Rattle.bson_decimal.proofs.QuotientLemmas.{quotient_of}
 use Rattle.bson_decimal.proofs.quotients.quotient.Goals as goal

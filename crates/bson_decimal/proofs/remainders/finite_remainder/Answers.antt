@@ -1,4 +1,4 @@
-use Rattle.std.proofs.Common.{◌≡◌, ◌*◌, ◌%◌, ◌^◌, ◌<◌, ◌≤◌, arith}
+use Rattle.std.proofs.Common.{arith}
 use Rattle.bson_decimal.proofs.RemainderLemmas.{remainder_first, remainder_second}
 use Rattle.bson_decimal.proofs.remainders.finite_remainder.Goals as goal
 

@@ -1,5 +1,4 @@
-use Rattle.std.proofs.Common.{◌≡◌, ◌*◌, ◌/◌, ◌%◌, ◌^◌, ◌<◌, ◌≤◌, ◌∙◌, arith}
-use Rattle.bson_decimal.proofs.RemainderLemmas.{rest_far, rest_less, rest_power, rest_room}
+use Rattle.bson_decimal.proofs.RemainderLemmas.{rest_far}
 use Rattle.bson_decimal.proofs.remainders.rest_by_zeros.Goals as goal
 
 pub returns-then-k-gt34-clause-equal : goal.returns-then-k-gt34-clause-equal

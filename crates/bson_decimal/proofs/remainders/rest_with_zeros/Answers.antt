@@ -1,5 +1,4 @@
-use Rattle.std.proofs.Common.{◌≡◌, ◌*◌, ◌%◌, ◌^◌, arith}
-use Rattle.bson_decimal.proofs.QuotientLemmas.{next_rest, rest_small}
+use Rattle.bson_decimal.proofs.QuotientLemmas.{next_rest}
 use Rattle.bson_decimal.proofs.RemainderLemmas.{rest_begin}
 use Rattle.bson_decimal.proofs.remainders.rest_with_zeros.Goals as goal
 

@@ -1,4 +1,4 @@
-use Rattle.std.proofs.Common.{◌≡◌, ◌<◌, ◌≤◌, ◌∙◌, arith}
+use Rattle.std.proofs.Common.{◌∙◌, arith}
 use Rattle.bson_decimal.proofs.WholeLemmas.{round_cut, round_exact}
 use Rattle.bson_decimal.proofs.wholes.round.Goals as goal
 

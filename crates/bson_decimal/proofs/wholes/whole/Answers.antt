@@ -1,4 +1,4 @@
-use Rattle.std.proofs.Common.{◌≡◌, ◌/◌, ◌^◌, ◌<◌, ◌≤◌, ◌∙◌, arith}
+use Rattle.std.proofs.Common.{◌∙◌}
 use Rattle.bson_decimal.proofs.WholeLemmas.{few_digits, parts_far, parts_of}
 use Rattle.bson_decimal.proofs.wholes.whole.Goals as goal
 
