@@ -9,6 +9,7 @@ import base64
 import hashlib
 import io
 import pathlib
+import posixpath
 import re
 import sys
 import tarfile
@@ -34,6 +35,14 @@ def version():
     return value_of("__version__", (HERE / PACKAGE / "__init__.py").read_text())
 
 
+def description():
+    """The package's page, which stands alone in a wheel: a link to another file becomes the name of that in the sources."""
+    def named(link):
+        return f"{link[1]} ({posixpath.normpath('python/' + link[2])} of the sources)"
+
+    return re.sub(r"\[([^][]*)\]\((?![^()\s]*://)([^()#\s]+)[^()\s]*\)", named, (HERE / "README.md").read_text())
+
+
 def metadata():
     project = (HERE / "pyproject.toml").read_text()
     lines = [
@@ -45,7 +54,7 @@ def metadata():
         f"Requires-Python: {value_of('requires-python', project)}",
         "Description-Content-Type: text/markdown",
         "",
-        (HERE / "README.md").read_text(),
+        description(),
     ]
     return "\n".join(lines).encode()
 

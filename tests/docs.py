@@ -108,15 +108,16 @@ def headings(page):
     return {slug(line.lstrip("#").strip()) for _, line in prose(page) if line.startswith("#")}
 
 
-def wrong_links(page):
+def wrong_links(page, root=ROOT):
+    """Links of a page to what isn't below a folder."""
     for number, line in prose(page):
         for target in re.findall(r"\]\(([^)\s]+)\)", re.sub(r"`[^`]*`", "", line)):
             if "://" in target:
                 continue
             path, _, name = target.partition("#")
             there = (page.parent / path).resolve() if path else page
-            if ROOT not in there.parents:
-                yield number, f"a link to {target}, outside the repository"
+            if root not in there.parents:
+                yield number, f"a link to {target}, outside of {root.name}"
             elif not there.exists():
                 yield number, f"a link to {target}, which isn't there"
             elif name and name not in headings(there):
@@ -283,4 +284,5 @@ def main():
     sys.exit(bool(wrong))
 
 
-main()
+if __name__ == "__main__":
+    main()

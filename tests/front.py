@@ -80,10 +80,12 @@ def lines_of(text):
 def checkout():
     """A checkout with the scripts of this one, and nothing to build from."""
     there = pathlib.Path(tempfile.mkdtemp(dir=FOLDER))
-    for name in [*NAMES, "install", "LICENSE", "README.md"]:
+    for name in [*NAMES, "install", "LICENSE", "README.md", "CHANGELOG.md"]:
         shutil.copy(ROOT / name, there)
-    for folder in "tools", "man", "completions", "docs":
-        shutil.copytree(ROOT / folder, there / folder, ignore=shutil.ignore_patterns("__pycache__", "development"))
+    for folder in "tools", "man", "completions", "docs", "samples":
+        shutil.copytree(ROOT / folder, there / folder, ignore=shutil.ignore_patterns("__pycache__"))
+    (there / "python").mkdir()
+    shutil.copy(ROOT / "python/README.md", there / "python")
     write(there / "VERSION", "1.2.3\n")
     return there
 

@@ -10,7 +10,8 @@
 # the next `$`, are what it prints on standard output and standard error. One shell runs all commands of a page. It starts in an
 # empty folder that has what the commands need of a checkout: the scripts `fallowtime`, `bson_store` and `bson_json`,
 # which start PROGRAM, and the folders `samples`, `tools` and `python`; it is on the path. With a FOLDER, that of the programs
-# of an installation, that is on the path, and there is nothing else. Blocks of other kinds aren't run: ```sh is for what takes hours,
+# of an installation, that is on the path, and there is nothing else than the samples that were installed, and with them the folder
+# `python`, as pip doesn't put the package there. Blocks of other kinds aren't run: ```sh is for what takes hours,
 # a network or a toolchain. The lines of each block ```rust stand one after the other in a source of crates/ or cases/, those of
 # ```antt in a proof there, apart from their indentation and the comments behind them.
 #
@@ -58,6 +59,8 @@ run_page() {
         mkdir "$path/program"
         for name in bson_store bson_json fallowtime; do cp "$root/$name" "$path" && cp "$program" "$path/program/$name"; done
         cp -r "$root/samples" "$root/tools" "$root/python" "$path"
+    elif [ -e "$program/../share/doc/fallowtime/samples" ]; then
+        cp -r "$program/../share/doc/fallowtime/samples" "$root/python" "$folder/checkout"
     fi
     blocks console "$1" >"$folder/printed"
     script <"$folder/printed" >"$folder/script"

@@ -1,6 +1,6 @@
 #!/usr/bin/python3
 """Makes the files of a release over a program, in a checkout that is made up: whether they are the same when they are made again,
-what is in them, and whether each one can be put into an empty folder, runs README's first run there, and is gone when it is taken away. Over the archive a new user's walk is done, too (tests/walk.py).
+what is in them, whether each link in them leads to something, and whether each one can be put into an empty folder, runs README's first run there, and is gone when it is taken away. Over the archive a new user's walk is done, too (tests/walk.py).
 
     tests/release.py FALLOWTIME
 
@@ -15,6 +15,9 @@ import shutil
 import subprocess
 import sys
 import tempfile
+import zipfile
+
+import docs
 
 ROOT = pathlib.Path(__file__).resolve().parent.parent
 PROGRAM = os.path.realpath(sys.argv[1])
@@ -58,7 +61,7 @@ def checkout():
     there = pathlib.Path(tempfile.mkdtemp(dir=FOLDER))
     for name in [*NAMES, "install", "release", "VERSION", "LICENSE", "README.md", "CHANGELOG.md"]:
         shutil.copy(ROOT / name, there)
-    for folder in "tools", "docs", "man", "completions", "python":
+    for folder in "tools", "docs", "man", "completions", "python", "samples":
         shutil.copytree(ROOT / folder, there / folder, ignore=shutil.ignore_patterns("__pycache__"))
     (there / ".gitignore").write_text("out/\ntarget/\ndist/\n")
     (there / "crates.txt").write_text("bson_store_cli: \n")
@@ -77,13 +80,23 @@ def checkout():
     return there
 
 
+def dead_links(folder):
+    """The links of the pages below a folder that lead to nothing there, and what isn't in the sources though a page says so."""
+    for page in sorted([*folder.rglob("*.md"), *folder.rglob("METADATA")]):
+        for number, what in docs.wrong_links(page, folder):
+            yield f"{page.relative_to(folder)}:{number}: {what}"
+        for named in re.findall(r"\(([^()\s]+) of the sources\)", page.read_text()):
+            if not (ROOT / named).exists():
+                yield f"{page.relative_to(folder)}: {named}, which isn't in the sources"
+
+
 def contents(folder):
     return {path.name: hashlib.sha256(path.read_bytes()).hexdigest() for path in sorted(folder.iterdir())}
 
 
-def runs_first_steps(bin_folder):
-    """Whether README's first run prints what the page says, with the programs of a folder and nothing of the checkout."""
-    status, out, errors = run("bash", ROOT / "tests/readme.sh", bin_folder, ROOT / "README.md")
+def runs_first_steps(bin_folder, *pages):
+    """Whether README's first run, or other pages, print what they say, with the programs of a folder and nothing of the checkout."""
+    status, out, errors = run("bash", ROOT / "tests/readme.sh", bin_folder, *pages or [ROOT / "README.md"])
     holds(f"README's first run over {bin_folder.relative_to(FOLDER)}", (status, out if status else "", errors), (0, "", ""))
 
 
@@ -117,7 +130,11 @@ os.umask(0o022)
 holds("made again", contents(other / "dist") == contents(dist), True)
 holds("the sums", (out, done("sha256sum", "-c", "--quiet", "SHA256SUMS", where=dist)), ((dist / "SHA256SUMS").read_text(), ""))
 section = re.split(r"^## ", (ROOT / "CHANGELOG.md").read_text(), flags=re.M)
-holds("the notes", [part.partition("\n")[2].strip() for part in section if part.startswith(VERSION)], [(dist / "NOTES.md").read_text().strip()])
+notes = [re.sub(r"\[([^][]*)\]\(([^()#\s]+)[^()\s]*\)", r"\1 (\2 of the sources)", part.partition("\n")[2].strip()) for part in section if part.startswith(VERSION)]
+holds("the notes", notes, [(dist / "NOTES.md").read_text().strip()])
+for name in wheel, plain:
+    zipfile.ZipFile(dist / name).extractall(FOLDER / "links" / name)
+holds("dead links", [*dead_links(dist), *dead_links(FOLDER / "links")], [])
 
 # With the quick program its names say so. What isn't committed isn't in them.
 (other / "LICENSE").write_text("an edit\n")
@@ -162,6 +179,7 @@ tree = unpacked / archive.removesuffix(".tar.gz")
 shutil.rmtree(there / "crates")
 shutil.rmtree(there / "target")
 holds("owners and times", done("tar", "tvf", dist / archive, "--numeric-owner", "--full-time", TZ="UTC0").count(" 0/0 "), len(everything(unpacked)))
+holds("dead links of the archive", list(dead_links(tree)), [])
 runs_first_steps(tree / "bin")
 prefix = FOLDER / "home/.local"
 status, out, errors = run(tree / "install")
@@ -169,7 +187,7 @@ holds("installed", (status, errors.split("\n")[0], sorted(out.split())),
       (0, f"install: fallowtime {VERSION} (commit abcdef0, proved)", sorted(str(path) for path in prefix.rglob("*") if not path.is_dir() or path.is_symlink())))
 holds("the same files", [path for path in everything(tree) if path != "install"], everything(prefix))
 shutil.rmtree(tree)
-runs_first_steps(prefix / "bin")
+runs_first_steps(prefix / "bin", *[prefix / "share/doc/fallowtime" / page for page in ("README.md", "docs/USING.md", "docs/FILES.md")])
 runs_walk(prefix / "bin")
 for name in NAMES:
     holds(f"{name} --version", done(prefix / "bin" / name, "--version"), f"{name} {VERSION} (commit abcdef0, proved)\n")
@@ -244,6 +262,7 @@ root = FOLDER / "root"
 (root / "var/lib/dpkg/status").touch()
 dpkg = ["dpkg", f"--root={root}", "--force-depends", "--force-not-root", "--log=/dev/null"]
 done(*dpkg, "-i", dist / deb)
+holds("dead links of Debian's package", list(dead_links(root / "usr")), [])
 runs_first_steps(root / "usr/bin")
 for name in NAMES:
     holds(f"{name} --version", done(root / "usr/bin" / name, "--version"), f"{name} {VERSION} (commit abcdef0, proved)\n")
