@@ -6,6 +6,7 @@ then.
 from __future__ import annotations
 
 import builtins
+import json
 import os
 from collections.abc import Mapping
 from typing import Any, Callable, Dict, Iterable, List, Optional, Sequence, Tuple
@@ -17,7 +18,7 @@ from ._errors import (IMMUTABLE, NO_SOURCE, TARGET_EXISTS, DuplicateKeyError, In
                       OperationFailure, Refused)
 from ._items import ItemUpdate, item_update_of
 from ._part import FIRST, Part
-from ._query import are_operators, encode_query, ids_of, is_number, is_one_look
+from ._query import are_operators, are_same_id, encode_query, ids_of, is_one_look
 from ._reading import File, Reading
 from ._requests import Document, Found, give_id, is_stricter, test_id, with_id
 from ._results import BulkWriteResult, DeleteResult, InsertManyResult, InsertOneResult, UpdateResult
@@ -141,6 +142,7 @@ class Changing(Reading):
             with self._session.lock:
                 # For an `_id`, which is found at once here, the program looks at each document, and it takes no sort.
                 if not sort and not is_one_look(filter):
+                    self._prepare(filter)
                     try:
                         return self._replace_first(query, text, own, upsert)
                     except Refused as refused:
@@ -218,10 +220,15 @@ class Changing(Reading):
                  is_many: bool) -> Callable[[], DeleteResult]:
         self._test_change(method, filter, hint, options)
         if is_one_look(filter) and not is_many:
-            ids = list(ids_of(filter["_id"]))
+            ids = ids_of(filter["_id"])
             return lambda: self._remove(ids)
         query, many = encode_query(filter), [MANY] if is_many else []
-        return lambda: DeleteResult(int(self._ask("delete", query, *many)["count"]))
+
+        def remove() -> DeleteResult:
+            self._prepare(filter)
+            return DeleteResult(int(self._ask("delete", query, *many)["count"]))
+
+        return remove
 
     def _remove(self, ids: List[str]) -> DeleteResult:
         """Removes the first document with one of these `_id`s that is there, which is found at once."""
@@ -264,6 +271,7 @@ class Changing(Reading):
         self._test_change("find_one_and_delete", filter, hint, options)
         wanted, query = wanted_of(projection, sort), encode_query(filter)
         if not is_one_look(filter):
+            self._prepare(filter)
             return self._find_and("find-and-delete", [query], wanted)
         with self._session.lock:
             found = self._seek(filter)
@@ -287,6 +295,7 @@ class Changing(Reading):
 
         with self._session.lock:
             if not is_one_look(filter):
+                self._prepare(filter)
                 try:
                     return self._find_and("find-and-replace", [query, text], wanted, put_in if upsert else None)
                 except Refused as refused:
@@ -395,14 +404,14 @@ class Changing(Reading):
         """A query whose first document is one that was found in another order, by its `_id`."""
         query = '{"_id":{"$eq":%s}}' % found[0]
         own = self._decoder.value(found[1]["_id"])
-        is_alone = is_one_look({"_id": own}) and not is_number(own)
+        is_alone = is_one_look({"_id": own}) and len(ids_of(own)) == 1
         if not is_alone and self._own_of(self._ask_part(query, FIRST)[0]) != self._own_of(found[1]):
             raise OperationFailure("several documents have this number as _id, and this one isn't the first of them")
         return query
 
     def _replace(self, found: Tuple[str, Any], replacement: Document) -> UpdateResult:
         own, tree = found
-        if "_id" in replacement and own not in ids_of(replacement["_id"]):
+        if "_id" in replacement and not are_same_id(self._decoder.value(json.loads(own)), replacement["_id"]):
             raise InvalidWriteError(
                 f"the document that is selected has the _id {own}; its replacement may have no other", IMMUTABLE)
         text = self._text_with_id(replacement, own)
@@ -447,7 +456,7 @@ def _id_to_put_in(query: Document, document: Document) -> Any:
     """The `_id` of a document that is put in as no query selected one."""
     asked = list(upserted_id(query))
     own = document["_id"] if "_id" in document else asked[0] if asked else ObjectId()
-    if any(encode_value(own) not in ids_of(value) for value in asked):
+    if not all(are_same_id(own, value) for value in asked):
         raise ValueError(f"the query asks for the _id {asked[0]!r}; the document may have no other")
     test_id(own)
     return own

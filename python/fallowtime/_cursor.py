@@ -6,7 +6,7 @@ from typing import TYPE_CHECKING, Any, Callable, Dict, Iterator, List, Optional,
 
 from ._absent import OF_CURSOR, WithAbsent
 from ._errors import InvalidOperation
-from ._explain import plan_of
+from ._explain import is_found, plan_of
 from ._part import Part, keys_of
 from ._projection import Projection
 
@@ -106,13 +106,13 @@ class Cursor(CommandCursor):
         self._select, self._project, self._part = select, project, part
 
     def _selected(self, part: Part) -> List[Any]:
-        """The trees of the documents of a part: of their fields alone, unless they come by their `_id`."""
+        """The trees of the documents of a part: of their fields alone, unless they come as a whole."""
         fields = self._project.fields
-        return self._select(part.but(fields=fields) if fields and not self._select.is_one_look else part)
+        return self._select(part.but(fields=fields) if fields and not self._select.are_whole else part)
 
     def _made(self, fetched: Any) -> Document:
         document = self._collection._decoder.document(fetched)
-        return self._project(document) if self._select.is_one_look else document
+        return self._project(document) if self._select.are_whole else document
 
     def _fetched(self, part: Part) -> List[Document]:
         """All documents of a part."""
@@ -174,7 +174,8 @@ class Cursor(CommandCursor):
         query `indexNames` has them all, and the program goes by the one that has the fewest documents."""
         self._collection._session.test_open()
         query = json.loads(self._select.query)
-        plan = plan_of(query, self._select.is_one_look, self._collection._known_indexes())
+        is_by_id = self._select.are_whole or self._select.is_by_id and is_found(query["_id"])
+        plan = plan_of(query, is_by_id, self._collection._known_indexes())
         return {"queryPlanner": {"namespace": self._collection.full_name,
                                  "parsedQuery": self._collection._decoder.document(query),
                                  "winningPlan": plan, "rejectedPlans": []}, "ok": 1.0}

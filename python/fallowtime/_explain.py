@@ -24,10 +24,10 @@ NEGATED = frozenset(["$ne", "$nin", "$not"])
 Query = Mapping[str, Tree]
 
 
-def plan_of(query: Query, is_one_look: bool, indexes: Iterable[Index]) -> Dict[str, Any]:
+def plan_of(query: Query, is_by_id: bool, indexes: Iterable[Index]) -> Dict[str, Any]:
     """How the documents of a query are found, in MongoDB's words: by their `_id` at once, by an index, or by a look at
     each one. Of several indexes that serve it the program takes the one that has the fewest documents."""
-    if is_one_look:
+    if is_by_id:
         return {"stage": "IDHACK"}
     by_path: Dict[str, Index] = {}
     for index in indexes:
@@ -91,11 +91,11 @@ def _condition_serves(operator: str, operand: Tree, is_whole: bool) -> bool:
         kinds = operand if isinstance(operand, list) else [operand]
         return all(_kind_of(kind) in LISTED for kind in kinds)
     if operator == "$eq":
-        return is_whole and _is_found(operand)
+        return is_whole and is_found(operand)
     if operator == "$in":
-        return all(is_whole and _is_found(value) for value in operand)
+        return all(is_whole and is_found(value) for value in operand)
     if operator == "$all":
-        return not operand or is_whole and any(_is_found(value) for value in operand)
+        return not operand or is_whole and any(is_found(value) for value in operand)
     return False
 
 
@@ -110,7 +110,7 @@ def _kind_of(tree: Tree) -> Any:
     return int(float(next(iter(tree.values())))) if isinstance(tree, Mapping) else tree
 
 
-def _is_found(tree: Tree) -> bool:
+def is_found(tree: Tree) -> bool:
     """Whether an index finds a value: a text, a number, an ObjectId, a date, a truth value."""
     if not isinstance(tree, Mapping):
         return isinstance(tree, (str, bool))

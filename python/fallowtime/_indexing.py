@@ -62,6 +62,8 @@ class Indexing(Requests):
             # One of the other direction is the same one for the program.
             if not any(index.path == path for name, index in known.items() if name not in names):
                 self._ask("drop_index", encode_text(path))
+                if path == "_id":
+                    self._store._indexed_by_id.discard(self._name)
             for name in names:
                 del known[name]
 

@@ -5,13 +5,13 @@ from __future__ import annotations
 import decimal
 import re
 from collections.abc import Mapping
-from typing import Any, Callable, Dict, Iterator, List
+from typing import Any, Callable, Dict, List
 
-from ._encode import GREATEST_INT32, GREATEST_INT64, LEAST_INT32, LEAST_INT64, RESERVED, encode_text, encode_value
-from ._values import Code, Int64, ObjectId, Regex, Symbol, is_foreign, options_of
+from ._encode import RESERVED, encode_text, encode_value
+from ._values import Code, ObjectId, Regex, Symbol, is_foreign, options_of
 
-# Classes of values that are equal to `_id`s of one way of writing, and of which most are.
-PLAIN = frozenset([int, str, float, ObjectId])
+# Classes of most `_id`s: those that are written in one way, or two, and those that are written in many.
+PLAIN, NUMBERS = frozenset([str, ObjectId]), frozenset([int, float])
 JOINING = frozenset(["$and", "$or", "$nor"])
 # The options of a pattern that the program takes.
 _OPTIONS = frozenset("imsux")
@@ -74,7 +74,7 @@ def _element_match(value: Any) -> str:
 
 
 def _number(operator: str, value: Any) -> str:
-    if not is_number(value) and not isinstance(value, decimal.Decimal) and not is_foreign(value, "Decimal128"):
+    if not is_numeral(value):
         raise TypeError(f"{operator} takes a number, and not {value!r}")
     return encode_value(value)
 
@@ -190,37 +190,48 @@ def asks_for_id(query: "Mapping[str, Any]") -> bool:
 
 
 def is_one_look(query: "Mapping[str, Any]") -> bool:
-    """Whether a query is one for an `_id` alone whose documents are those with the `ids_of` its value. What is made of
-    several values, a decimal and a symbol are equal to `_id`s that are written in other ways, too."""
+    """Whether a query is one for an `_id` alone whose documents are those with the `ids_of` its value."""
     if len(query) == 1 and type(query.get("_id")) in PLAIN:
         return True
-    return asks_for_id(query) and not (
-        isinstance(query["_id"], (Mapping, list, tuple, decimal.Decimal, Symbol, Code))
-        or any(is_foreign(query["_id"], name) for name in ("Decimal128", "Code", "DBRef")))
+    return not asks_for_plain_number(query) and asks_for_id(query) and not has_many_ids(query["_id"])
 
 
-def ids_of(value: Any) -> Iterator[str]:
-    """The `_id`s that a value stands for in a query, as JSON, its own one first: of a number those of each kind that
-    has it. At most one document has each of them."""
+def asks_for_plain_number(query: "Mapping[str, Any]") -> bool:
+    """Whether a query is one for an `_id` alone that is an `int` or a `float`. This is the first question of most requests,
+    so it is a quick one."""
+    return len(query) == 1 and type(query.get("_id")) in NUMBERS
+
+
+def has_many_ids(value: Any) -> bool:
+    """Whether `_id`s that are equal to a value may be written in many ways: as a number is in each kind and, as a decimal,
+    with more or fewer zeros, and so is what is made of several values."""
+    return (is_numeral(value) or isinstance(value, (Mapping, list, tuple, Code))
+            or any(is_foreign(value, name) for name in ("Code", "DBRef")))
+
+
+def ids_of(value: Any) -> List[str]:
+    """The `_id`s that are equal to a value, as JSON, its own one first: a text and a symbol are. At most one document has
+    each of them."""
     own = encode_value(value)
-    yield own
-    if not is_number(value):
-        return
-    if isinstance(value, float):
-        kinds = _whole_ids(int(value)) if value.is_integer() and -(2.0 ** 63) <= value < 2.0 ** 63 else iter(())
-    else:
-        kinds = _ids_of_whole(int(value))
-    yield from (text for text in kinds if text != own)
+    if isinstance(value, Symbol):
+        return [own, encode_text(str(value))]
+    return [own, encode_value(Symbol(value))] if isinstance(value, str) else [own]
 
 
-def _ids_of_whole(value: int) -> Iterator[str]:
-    yield from _whole_ids(value)
-    if int(float(value)) == value:
-        yield encode_value(float(value))
+def are_same_id(one: Any, other: Any) -> bool:
+    """Whether two values are equal as `_id`s in a query, so that a document may have either of them."""
+    if is_numeral(one) and is_numeral(other):
+        first, second = _number_of(one), _number_of(other)
+        return first == second or first != first and second != second
+    return encode_value(one) in ids_of(other)
 
 
-def _whole_ids(value: int) -> Iterator[str]:
-    if LEAST_INT32 <= value <= GREATEST_INT32:
-        yield encode_value(value)
-    if LEAST_INT64 <= value <= GREATEST_INT64:
-        yield encode_value(Int64(value))
+def is_numeral(value: Any) -> bool:
+    """Whether a value is a number of any kind."""
+    return is_number(value) or isinstance(value, decimal.Decimal) or is_foreign(value, "Decimal128")
+
+
+def _number_of(value: Any) -> Any:
+    """A number that compares exactly with those of other kinds. All that are no number are a NaN that can be compared."""
+    number = value.to_decimal() if is_foreign(value, "Decimal128") else value
+    return float("nan") if isinstance(number, decimal.Decimal) and number.is_nan() else number

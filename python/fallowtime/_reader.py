@@ -23,6 +23,7 @@ class Reader:
     """Asks the program as a `Session` does, and needs no lock, as every question stands by itself."""
 
     lock = contextlib.nullcontext()
+    has_indexes = False
 
     def __init__(self, program: str, path: str, waiting: List[str]) -> None:
         self._program, self._path, self._waiting = program, path, waiting

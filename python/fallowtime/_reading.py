@@ -12,7 +12,7 @@ from ._cursor import Cursor
 from ._indexing import Indexing
 from ._part import WHOLE, Part
 from ._projection import projection_of
-from ._query import encode_query, is_one_look
+from ._query import asks_for_plain_number, encode_query, is_one_look
 from ._requests import Document
 
 File = Union[str, "os.PathLike[str]", IO[bytes]]
@@ -27,15 +27,16 @@ class Reading(Indexing):
                  **options: Any) -> Optional[Dict[str, Any]]:
         """The first document that a query selects, or None. What is no dict is the `_id` that is asked for.
 
-        By an `_id` it is one look into an index, unless it is a dict, a list or a decimal. By another query the
-        program reads the documents up to that one, or with `sort` all of them, and sends that one alone.
+        By an `_id` it is one look into an index, unless it is a dict or a list. By another query the program reads the
+        documents up to that one, or with `sort` all of them, and sends that one alone.
         """
         test_options("find_one", options)
         self._test_hint(hint)
         project, part = projection_of(projection), Part(sort, skip) if sort or skip else WHOLE
         if not isinstance(filter, Mapping):
             filter = {} if filter is None else {"_id": filter}
-        if skip or not is_one_look(filter):
+        is_plain = not sort and not projection and asks_for_plain_number(filter)
+        if skip or not is_plain and not is_one_look(filter):
             found = Cursor(self, self._selection(filter), project, part)._fetched(part.first())
             return found[0] if found else None
         held = self._seek(filter)

@@ -10,8 +10,8 @@ from ._distinct import distinct_values, may_name_place
 from ._encode import encode_document, encode_text, encode_value, test_document
 from ._errors import (CONFLICT, DOLLAR_KEY, NOT_PARSED, TWO_VALUES, DuplicateKeyError, InvalidWriteError, Refused,
                       WriteError)
-from ._part import WHOLE, Part
-from ._query import encode_query, ids_of, is_number, is_one_look
+from ._part import FIRST, WHOLE, Part
+from ._query import asks_for_id, asks_for_plain_number, encode_query, ids_of, is_numeral, is_one_look
 from ._reader import Reader
 from ._results import UpdateResult
 from ._session import Session
@@ -27,6 +27,8 @@ Found = Optional[Tuple[str, Tree]]
 CONFLICTING = "meets another path"
 # Classes of `_id`s that are no documents, as most are.
 PLAIN = (int, str, ObjectId, float, bytes)
+# The part that most requests want.
+OF_FIRST = FIRST.text()
 # Keys of an `_id` that is a reference, which begin with `$` and may.
 OF_REFERENCES = frozenset(["$ref", "$id", "$db"])
 
@@ -34,11 +36,12 @@ OF_REFERENCES = frozenset(["$ref", "$id", "$db"])
 class Selection:
     """A query that was read, which asks for the trees of the documents that it selects, or of a part of them."""
 
-    __slots__ = ("query", "is_one_look", "_fetch")
+    __slots__ = ("query", "is_by_id", "are_whole", "_fetch")
 
-    def __init__(self, query: str, is_one_look: bool, fetch: Callable[[Part], List[Tree]]) -> None:
-        # As the program reads it, and whether it is one look into the index on `_id`.
-        self.query, self.is_one_look = query, is_one_look
+    def __init__(self, query: str, is_by_id: bool, are_whole: bool, fetch: Callable[[Part], List[Tree]]) -> None:
+        # As the program reads it; whether it asks for an `_id` that the program's index serves, if it can serve it at all;
+        # and whether the documents come by one look for their `_id`, as a whole, whatever fields are wanted.
+        self.query, self.is_by_id, self.are_whole = query, is_by_id, are_whole
         self._fetch = fetch
 
     def __call__(self, part: Part) -> List[Tree]:
@@ -77,11 +80,37 @@ class Requests:
     def _selection(self, query: Document) -> Selection:
         """A query that is read here."""
         test_document(query)
-        if is_one_look(query) and not is_number(query["_id"]):
-            own = encode_value(query["_id"])
-            return Selection('{"_id":%s}' % own, True, lambda part: part.of(self._got(own)))
         text = encode_query(query)
-        return Selection(text, False, lambda part: self._ask_part(text, part))
+        if is_one_look(query):
+            ids = ids_of(query["_id"])
+            return Selection(text, False, True, lambda part: self._with_ids(text, ids, part))
+        is_by_id = asks_for_number(query) and self._session.has_indexes
+
+        def fetch(part: Part) -> List[Tree]:
+            self._prepare(query)
+            return self._ask_part(text, part)
+
+        return Selection(text, is_by_id, False, fetch)
+
+    def _with_ids(self, query: str, ids: List[str], part: Part) -> List[Tree]:
+        """The trees of a part of the documents with these `_id`s, which are all that a query selects."""
+        with self._session.lock:
+            found = [tree for own in ids for tree in self._got(own)]
+            # Which of several comes first the program alone knows.
+            return part.of(found) if len(found) < 2 else self._ask_part(query, part)
+
+    def _prepare(self, query: Document) -> None:
+        """Makes an index on `_id`, once in the life of the store, if a query asks for a number there, which may be written
+        in many ways, so that the program reads few documents. Without an index it reads all, with the same answer."""
+        indexed = self._store._indexed_by_id
+        if self._name in indexed or not self._session.has_indexes or not asks_for_number(query):
+            return
+        try:
+            self._ask("index", '"_id"')
+        except Refused as refused:
+            if refused.kind != "Memory":
+                raise
+        indexed.add(self._name)
 
     def _got(self, own: str) -> List[Tree]:
         """The tree of the document with this `_id`, if there is one."""
@@ -89,7 +118,7 @@ class Requests:
         return [] if answer is None else [answer["document"]]
 
     def _ask_part(self, query: str, part: Part) -> List[Tree]:
-        text = part.text()
+        text = OF_FIRST if part is FIRST else part.text()
         places = [query, text] if text else [query] if query != "{}" else []
         return list(self._ask("find", *places)["documents"])
 
@@ -108,7 +137,8 @@ class Requests:
         Extended JSON, and is asked for by its `_id`."""
         test_document(query)
         if not is_one_look(query):
-            trees = self._selection(query)(part.first())
+            self._prepare(query)
+            trees = self._ask_part(encode_query(query), part.first())
             return (self._own_of(trees[0]), trees[0]) if trees else None
         with self._session.lock:
             for own in ids_of(query["_id"]):
@@ -151,6 +181,11 @@ class Requests:
 
     def _result(self, answer: Any) -> UpdateResult:
         return update_result(answer, self._decoder)
+
+
+def asks_for_number(query: Document) -> bool:
+    """Whether a query is one for an `_id` alone that is a number."""
+    return asks_for_plain_number(query) or asks_for_id(query) and is_numeral(query["_id"])
 
 
 def update_result(answer: Any, decoder: Decoder) -> UpdateResult:

@@ -29,6 +29,9 @@ GRACE, LAST_GRACE = 60, 5
 class Session:
     """A process of the program. All threads may ask it: one question is answered before the next one is sent."""
 
+    # Whether it keeps indexes from one question to the next.
+    has_indexes = True
+
     def __init__(self, program: str, words: List[str]) -> None:
         self.lock = threading.RLock()
         self._report = Report()

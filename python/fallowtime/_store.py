@@ -3,7 +3,7 @@ from __future__ import annotations
 
 import os
 import weakref
-from typing import TYPE_CHECKING, Any, Dict, List, NoReturn, Optional, Union
+from typing import TYPE_CHECKING, Any, Dict, List, NoReturn, Optional, Set, Union
 
 from ._absent import OF_STORE, WithAbsent, is_name, refuse, test_concern, test_options
 from ._collection import Collection
@@ -45,6 +45,8 @@ class Store(WithAbsent):
             self._session = Session(self._program, [self._path, *self._waiting])
         # The indexes of each collection that were made, by their names: they are in memory, until the store is closed.
         self._indexes: Dict[str, Dict[str, Index]] = {}
+        # The names of the collections that have an index on `_id` of which nobody else knows.
+        self._indexed_by_id: Set[str] = set()
         if is_opened:
             self._session.open()
         self._closing = weakref.finalize(self, self._session.close_quietly)

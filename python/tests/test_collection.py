@@ -161,8 +161,7 @@ class Looking(WithFolder):
         for asked in 5, Int64(5), 5.0, decimal.Decimal("5.0"):
             self.assertEqual([found["was"] for found in kinds.find({"_id": asked})], ["5", "Int64(5)", "5.0"])
             self.assertEqual(kinds.count_documents({"_id": asked}), 3)
-        for asked, was in [(5, "5"), (5.0, "5.0"), (Int64(5), "Int64(5)"), (6, "6.0"), (7, "Int64(7)"),
-                           (7.0, "Int64(7)"), (1.5, "1.5"),
+        for asked, was in [(5, "5"), (5.0, "5"), (Int64(5), "5"), (6, "6.0"), (7, "Int64(7)"), (7.0, "Int64(7)"), (1.5, "1.5"),
                            (float(1 << 40), "1099511627776"), (1 << 41, "2199023255552.0")]:
             self.assertEqual(kinds.find_one(asked)["was"], was)
             self.assertEqual(kinds.find_one({"_id": asked})["was"], was)
@@ -173,6 +172,50 @@ class Looking(WithFolder):
         self.assertEqual(kinds.update_one({"_id": 6}, {"$set": {"was": "six"}}).modified_count, 1)
         self.assertEqual(kinds.replace_one({"_id": 6}, {"_id": 6, "a": 1}).modified_count, 1)
         self.assertEqual(repr(kinds.find_one(6)), "{'_id': 6.0, 'a': 1}")
+
+    def test_an_id_of_another_kind(self):
+        """What is equal to the `_id` that is asked for is found by each method, however it is written."""
+        Decimal, kinds = decimal.Decimal, self.store["kinds"]
+        for own, asked in [(Decimal("1"), 1), (Decimal("1.0"), 1.0), (Decimal("1E+2"), Int64(100)),
+                           (Int64(3), Decimal("3.00")),
+                           (fallowtime.Symbol("a"), "a"), ("b", fallowtime.Symbol("b"))]:
+            with self.subTest(own=own, asked=asked):
+                kinds.insert_one({"_id": own, "n": 0})
+                query = {"_id": asked}
+                self.assert_same(list(kinds.find(query)), [{"_id": own, "n": 0}])
+                self.assert_same(kinds.find_one(query), {"_id": own, "n": 0})
+                self.assertEqual(kinds.count_documents(query), 1)
+                self.assertEqual(counts(kinds.replace_one(query, {"n": 1})), (1, 1, None))
+                self.assertEqual(counts(kinds.replace_one(query, {"_id": asked, "n": 2}, upsert=True)), (1, 1, None))
+                self.assert_same(kinds.find_one_and_replace(query, {"_id": asked, "n": 3}), {"_id": own, "n": 2})
+                self.assert_same(kinds.find_one_and_update(query, {"$inc": {"n": 1}}), {"_id": own, "n": 3})
+                self.assert_same(kinds.find_one_and_delete(query), {"_id": own, "n": 4})
+                self.assertEqual(kinds.delete_one(query).deleted_count, 0)
+                kinds.insert_one({"_id": own})
+                self.assertEqual(kinds.delete_one(query).deleted_count, 1)
+        kinds.insert_many([{"_id": Decimal("NaN")}, {"_id": fallowtime.Symbol("a")}, {"_id": "a"}])
+        self.assertEqual(counts(kinds.replace_one({"_id": float("nan")}, {"_id": float("nan"), "n": 1})), (1, 1, None))
+        self.assert_same([found["_id"] for found in kinds.find({"_id": "a"})], [fallowtime.Symbol("a"), "a"])
+        kinds.update_one({"_id": "a"}, {"$set": {"n": 2}})
+        self.assert_same([found["_id"] for found in kinds.find({"_id": "a"}).sort("n").limit(1)], ["a"])
+        self.assertRaises(fallowtime.WriteError, kinds.replace_one, {"_id": Decimal("NaN")}, {"_id": Decimal("1")})
+
+    def test_one_index_for_numbers(self):
+        """An `_id` that is a number is found by an index on it, which is made once and which nobody else sees."""
+        kinds = self.store["kinds"]
+        kinds.insert_many([{"_id": number} for number in range(10)])
+        session = kinds._session
+        ask, asked = session.ask, []
+        session.ask = lambda command, *places: asked.append((command, *places[1:])) or ask(command, *places)
+        self.addCleanup(delattr, session, "ask")
+        kinds.find_one(1)
+        kinds.delete_one({"_id": 2})
+        self.assertEqual([request[0] for request in asked], ["index", "find", "delete"])
+        self.assertEqual(list(kinds.index_information()), ["_id_"])
+        kinds.create_index("_id")
+        kinds.drop_index("_id_1")
+        kinds.find_one(1)
+        self.assertEqual([request[0] for request in asked[4:]], ["index", "drop_index", "index", "find"])
 
     def test_queries(self):
         many = self.store["many"]

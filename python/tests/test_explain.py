@@ -32,7 +32,8 @@ NOT_SERVED = [
     {"a.b": {"$type": ["array", "int"]}}, {"a.b": {"$in": [5, None]}}, {"a.b": {"$in": []}}, {"a.b": {"$all": []}},
     {"a.b": {"$all": [None]}}, {"$or": [{"a.b": 5}, {"x": 0}]}, {"$nor": [{"a.b": 5}]}, {"a": {"$type": "array"}},
     {"a": {"$type": "array"}, "a.b": {"$ne": 5}}, {"a": {"$type": "array"}, "a.b": {"$exists": False}},
-    {"a.b": {"$eq": re.compile("5")}}, {"a.b": {"$eq": Regex("5", "")}}, {"a.b": b"5"}, {"_id": 5},
+    {"a.b": {"$eq": re.compile("5")}}, {"a.b": {"$eq": Regex("5", "")}}, {"a.b": b"5"}, {"_id": {"x": 5}},
+    {"_id": Decimal("0.5")},
 ]
 SCANNED = {"stage": "COLLSCAN", "direction": "forward"}
 
@@ -61,7 +62,8 @@ class Explaining(WithFolder):
             "namespace": "test.c", "parsedQuery": {"a": 5, "b": {"$in": [1, None]}}, "winningPlan": SCANNED,
             "rejectedPlans": []}, "ok": 1.0})
         self.assertEqual(list(cursor), [])
-        self.assertEqual(plan_of(store.c.find({"_id": "x"})), {"stage": "IDHACK"})
+        for own in "x", 5, 0.5, Decimal("5.0"):
+            self.assertEqual(plan_of(store.c.find({"_id": own})), {"stage": "IDHACK"})
         store.c.create_index([("a", -1)], name="own")
         self.assertEqual(plan_of(cursor)["indexName"], "own")
         self.assertEqual(plan_of(cursor)["keyPattern"], {"a": -1})
@@ -81,6 +83,7 @@ class Explaining(WithFolder):
         reader = self.open(readonly=True)
         self.assertEqual(plan_of(reader.c.find({"a": 5})), SCANNED)
         self.assertEqual(plan_of(reader.c.find({"_id": "x"})), {"stage": "IDHACK"})
+        self.assertEqual(plan_of(reader.c.find({"_id": 1})), SCANNED)
 
     @unittest.skipUnless(os.path.exists("/proc/self/schedstat"), "the time of a process is in /proc")
     def test_the_program_does_so(self):

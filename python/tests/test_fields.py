@@ -74,7 +74,7 @@ class Fields(WithFolder):
         self.assertEqual(collection.find_one("x", {"a.b": 0}), {"_id": "x", "a": {"c": 2}})
         self.assertEqual(asked, [
             ("find", '{"sort":{"_id":-1},"fields":{"a.b":1},"limit":1}'), ("find", '{"fields":{"_id":0,"a":1},"limit":1}'),
-            ("find", '{"fields":{"a":0},"limit":1}'), ("find", '{"fields":{"d":1,"_id":0}}'), ("get",), ("get",)])
+            ("find", '{"fields":{"a":0},"limit":1}'), ("find", '{"fields":{"d":1,"_id":0}}'), ("get",), ("get",), ("get",)])
 
     def test_collisions(self):
         collection = self.open().c

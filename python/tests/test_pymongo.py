@@ -305,7 +305,7 @@ class FindingAndChanging(WithOrders):
         kinds.insert_many([{"_id": Int64(5), "n": 0}, {"_id": 5, "n": 0}])
         self.assert_same(kinds.find_one_and_update({"_id": 5}, {"$inc": {"n": 1}}, return_document=AFTER),
                          {"_id": Int64(5), "n": 1})
-        self.assert_same(kinds.find_one_and_delete({"_id": 5}), {"_id": 5, "n": 0})
+        self.assert_same(kinds.find_one_and_delete({"_id": 5, "n": 0}), {"_id": 5, "n": 0})
         self.assert_same(kinds.find_one_and_replace({"n": 1}, {"_id": 5, "n": 2}, return_document=AFTER),
                          {"_id": Int64(5), "n": 2})
         self.assertEqual(kinds.replace_one({"n": 2}, {"_id": 5.0, "n": 3}).modified_count, 1)
@@ -339,7 +339,10 @@ class FindingAndChanging(WithOrders):
         result, commands = self.requests(orders.replace_one, {"x": 7}, {"x": 8}, upsert=True)
         self.assertEqual((type(result.upserted_id), commands), (ObjectId, ["replace-one"]))
         self.assertEqual(self.requests(orders.find_one_and_delete, {"_id": 1}, ["x"]),
-                         ({"_id": 1, "x": 0}, ["get", "remove"]))
+                         ({"_id": 1, "x": 0}, ["index", "find-and-delete"]))
+        orders.insert_one({"_id": "x", "x": 1})
+        self.assertEqual(self.requests(orders.find_one_and_delete, {"_id": "x"}, ["x"]),
+                         ({"_id": "x", "x": 1}, ["get", "remove"]))
 
     def test_replacements_that_are_put_in(self):
         """What a query asks to be equal is nothing to a replacement, apart from the `_id`."""
