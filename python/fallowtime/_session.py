@@ -46,12 +46,15 @@ class Session:
         self._has_room, self._has_answer = select.poll(), select.poll()
         self._has_room.register(self._input, select.POLLOUT)
         self._has_answer.register(self._output, select.POLLIN)
-        # What isn't sent yet of the last question, while its answer didn't come; else None. And what came of the
-        # answer.
+        # What isn't sent yet of the last question, while its answer didn't come; else None. What came of the answer, and
+        # how the answer begins, if that is known.
         self._due: Optional[memoryview] = None
         self._pieces: List[bytes] = []
-        # Whether these two say how it is. Between a call of the system and the line behind it they may not.
+        self._beginning = b""
+        # Whether these three say how it is. Between a call of the system and the line behind it they may not.
         self._is_sure = True
+        # How often that was so as an exception came.
+        self._losses = 0
         self._is_inside = False
         # Why there is no program any more, and whether an exception has said so.
         self._end: Optional[Ended] = None
@@ -82,8 +85,8 @@ class Session:
         """The answer to a command, whose places are texts of JSON. `Refused` if it is refused, and `Ended` if there is
         no program.
 
-        An exception that comes in between, as of a signal, leaves the answer to be passed over by the next question, or
-        ends the program if that can't be. Whether the command was done is then open.
+        An exception that comes in between, as of a signal, leaves the answer to be passed over by the next question.
+        Whether the command was done is then open.
         """
         line = ("[" + ",".join([f'"{command}"', *places]) + "]").encode()
         if len(line) > LONGEST:
@@ -111,7 +114,7 @@ class Session:
             self._test_outside()
             if self._end is None:
                 # A program whose answer isn't waited for ends in its own way.
-                self._is_reported = self._due is not None
+                self._is_reported = self._due is not None or not self._is_sure
                 self._end = Ended("the store was closed")
                 ended = self._finish(GRACE)
                 if ended.status and not self._is_reported:
@@ -152,12 +155,6 @@ class Session:
         try:
             self._is_inside = True
             received = self._exchange(line, patience)
-        except Ended:
-            raise
-        except BaseException as error:
-            if not self._is_sure:
-                self._stop(f"a request was cut off by {error!r}")
-            raise
         finally:
             self._is_inside = False
         answer, text, end = None, "", 0
@@ -172,6 +169,8 @@ class Session:
         return answer
 
     def _exchange(self, line: bytes, patience: Optional[int]) -> bytes:
+        if not self._is_sure:
+            self._ask_for_a_beginning()
         if self._due is not None:
             # The answer to a question that was cut off comes first.
             self._send()
@@ -179,6 +178,14 @@ class Session:
         self._due = memoryview(line)
         self._send()
         return self._receive(patience)
+
+    def _ask_for_a_beginning(self) -> None:
+        """Ends the line of which nobody knows how much was sent, and asks for nothing, with an id: what comes in front of
+        that answer is passed over."""
+        self._losses += 1
+        beginning = b'{"id":"loss %d"' % self._losses
+        self._pieces, self._beginning, self._due = [], beginning, memoryview(b"\n%s,\"do\":[]}\n" % beginning)
+        self._is_sure = True
 
     def _send(self) -> None:
         """Writes what is due of the question."""
@@ -205,13 +212,20 @@ class Session:
             if not piece:
                 raise self._fail()
             self._pieces.append(piece)
-            pieces = self._pieces
-            is_whole = piece.endswith(b"\n")
-            if is_whole:
-                self._pieces, self._due = [], None
+            received = self._received() if piece.endswith(b"\n") else None
+            if received is not None:
+                self._pieces, self._due, self._beginning = [], None, b""
             self._is_sure = True
-            if is_whole:
-                return b"".join(pieces)
+            if received is not None:
+                return received
+
+    def _received(self) -> Optional[bytes]:
+        """The answer that came, if its beginning is the one that is known, or none is."""
+        received = b"".join(self._pieces)
+        if not self._beginning:
+            return received
+        last = received[received.rfind(b"\n", 0, -1) + 1:]
+        return last if last.startswith(self._beginning) else None
 
     def _fail(self) -> Ended:
         """The error for a program that has closed its pipes, as it has ended or is about to."""

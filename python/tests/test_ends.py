@@ -3,6 +3,7 @@ is full."""
 import contextlib
 import gc
 import io
+import itertools
 import multiprocessing
 import os
 import pathlib
@@ -311,6 +312,46 @@ class CutOff(WithFolder):
             self.cut(store, store["c"].find().next)
             self.assertEqual(len([*store["c"].find()]), 100)
 
+    def cut_behind(self, name, call, at=1, share=1.0):
+        """A call that is cut off between a call of the system, the first or a later one, and what takes note of that, which
+        may be one that writes a share of its bytes."""
+        done, calls = getattr(os, name), itertools.count(1)
+
+        def cutting(file, what):
+            if next(calls) != at:
+                return done(file, what)
+            done(file, what if name == "read" else what[:int(len(what) * share)])
+            raise TooLate
+
+        with mock.patch.object(os, name, cutting):
+            self.assertRaises(TooLate, call)
+
+    def test_a_loss_of_what_was_sent_or_received(self):
+        """What comes between a call of the system and the line behind it leaves the store open, too."""
+        with self.open() as store:
+            collection = store["c"]
+            for number, (name, share, is_done) in enumerate([("read", 1, True), ("write", 1, True), ("write", 0.5, False)]):
+                self.cut_behind(name, lambda: collection.insert_one({"_id": number}), share=share)
+                self.assertEqual(collection.count_documents({"_id": number}), int(is_done))
+                self.assertEqual(collection.find_one({"_id": 0}), {"_id": 0})
+            documents = [{"_id": number, "t": "x" * 100000} for number in range(100)]
+            self.cut_behind("write", lambda: store["d"].insert_many(documents), at=40)
+            self.assertEqual(store["d"].count_documents({}), 0)
+            store["d"].insert_many(documents)
+            self.cut_behind("read", store["d"].find().next, at=40)
+            self.assertEqual([found["_id"] for found in store["d"].find()], list(range(100)))
+
+    def test_one_loss_after_another(self):
+        with self.open() as store:
+            for number in range(3):
+                self.cut_behind("read", lambda: store["c"].insert_one({"_id": number}))
+                for name, share in ("write", 1), ("write", 0.5), ("read", 1):
+                    self.cut_behind(name, store["c"].find_one, share=share)
+                self.assertEqual(store["c"].count_documents({}), number + 1)
+            self.cut_behind("write", store["c"].find_one, share=0.5)
+        with self.open() as store:
+            self.assertEqual(store["c"].count_documents({}), 3)
+
     def test_closing_behind_a_request_that_was_cut_off(self):
         documents = [{"_id": number, "t": "x" * 100000} for number in range(100)]
         for call in (lambda store: store["c"].insert_many(documents)), (lambda store: store["c"].find_one()):
@@ -348,31 +389,25 @@ class CutOff(WithFolder):
             self.assertIsNone(store["c"].find_one())
 
     def test_signals_at_any_moment(self):
-        """Signals come all the time, and each request that returns has its own answer."""
+        """Signals come all the time, each request that returns has its own answer, and the store stays open."""
         def handler(*_):
             raise TooLate
 
         store = self.open()
         store["c"].insert_many([{"_id": number} for number in range(100)])
         old = signal.signal(signal.SIGALRM, handler)
-        cut = ended = number = 0
+        cut = number = 0
         began = time.monotonic()
         try:
             # A machine that is busy gets more time, until enough of them were answered.
             while (spent := time.monotonic() - began) < 3 or number - cut <= 100 and spent < 60:
                 try:
-                    try:
-                        signal.setitimer(signal.ITIMER_REAL, 0.0005 + number % 17 * 0.00003 + max(spent - 3, 0) * 0.001)
-                        number += 1
-                        found = store["c"].find_one(number % 100)
-                        signal.setitimer(signal.ITIMER_REAL, 0)
-                        if found != {"_id": number % 100}:
-                            self.fail(f"{found} for {number % 100}")
-                    except fallowtime.Ended:
-                        # The signal may come here, too; the next request is Ended again then.
-                        signal.setitimer(signal.ITIMER_REAL, 0)
-                        ended += 1
-                        store = self.open()
+                    signal.setitimer(signal.ITIMER_REAL, 0.0005 + number % 17 * 0.00003 + max(spent - 3, 0) * 0.001)
+                    number += 1
+                    found = store["c"].find_one(number % 100)
+                    signal.setitimer(signal.ITIMER_REAL, 0)
+                    if found != {"_id": number % 100}:
+                        self.fail(f"{found} for {number % 100}")
                 except TooLate:
                     cut += 1
         finally:
