@@ -14,11 +14,12 @@ from __future__ import annotations
 
 from ._client import MongoClient
 from ._collection import Collection
+from ._concerns import CursorType, ReadPreference, WriteConcern
 from ._cursor import CommandCursor, Cursor
 from ._errors import (BulkWriteError, CollectionInvalid, ConfigurationError, ConnectionFailure, DuplicateKeyError,
                       Ended, FallowtimeError, InsertManyError, InvalidName, InvalidOperation, InvalidWriteError,
                       OperationFailure, Refused, RefusedWrite, WriteError)
-from ._index import ASCENDING, DESCENDING
+from ._index import ASCENDING, DESCENDING, GEO2D, GEOSPHERE, HASHED, TEXT
 from ._results import BulkWriteResult, DeleteResult, InsertManyResult, InsertOneResult, ReturnDocument, UpdateResult
 from ._store import Store, open
 from ._transaction import Transaction
@@ -30,12 +31,13 @@ __version__ = "0.1.0"
 
 __all__ = [
     "ASCENDING", "Binary", "BulkWriteError", "BulkWriteResult", "Code", "Collection", "CollectionInvalid",
-    "CommandCursor", "ConfigurationError", "ConnectionFailure", "Cursor", "DBPointer", "DESCENDING", "DatetimeMS",
-    "DeleteMany", "DeleteOne", "DeleteResult", "DuplicateKeyError", "Ended", "FallowtimeError", "IndexModel",
-    "InsertManyError", "InsertManyResult", "InsertOne", "InsertOneResult", "Int64", "InvalidName", "InvalidOperation",
-    "InvalidWriteError", "MaxKey", "MinKey", "MongoClient", "ObjectId", "OperationFailure", "Refused", "RefusedWrite",
-    "Regex", "ReplaceOne", "ReturnDocument", "Store", "Symbol", "Timestamp", "Transaction", "Undefined", "UpdateMany",
-    "UpdateOne", "UpdateResult", "WriteError", "open",
+    "CommandCursor", "ConfigurationError", "ConnectionFailure", "Cursor", "CursorType", "DBPointer", "DESCENDING",
+    "DatetimeMS", "DeleteMany", "DeleteOne", "DeleteResult", "DuplicateKeyError", "Ended", "FallowtimeError", "GEO2D",
+    "GEOSPHERE", "HASHED", "IndexModel", "InsertManyError", "InsertManyResult", "InsertOne", "InsertOneResult", "Int64",
+    "InvalidName", "InvalidOperation", "InvalidWriteError", "MaxKey", "MinKey", "MongoClient", "ObjectId",
+    "OperationFailure", "ReadPreference", "Refused", "RefusedWrite", "Regex", "ReplaceOne", "ReturnDocument", "Store",
+    "Symbol", "TEXT", "Timestamp", "Transaction", "Undefined", "UpdateMany", "UpdateOne", "UpdateResult",
+    "WriteConcern", "WriteError", "open",
 ]
 
 # They are of this package, as tracebacks and pickle name them, wherever in it they are written.

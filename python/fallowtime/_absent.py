@@ -1,6 +1,7 @@
-"""What pymongo has and can't be had here: it raises NotImplementedError, which names it, before anything is sent."""
+"""What pymongo has and isn't supported here: it raises NotImplementedError, which names it, before anything is sent."""
 from __future__ import annotations
 
+import re
 from typing import TYPE_CHECKING, Any, Callable, FrozenSet, Mapping, NoReturn
 
 _WHOLE = "documents come as a whole"
@@ -100,13 +101,32 @@ IDLE_OF_CLIENT = frozenset([
     "serverSelectionTimeoutMS", "socketTimeoutMS", "w", "waitQueueTimeoutMS", "wtimeoutMS",
 ])
 
+# What pymongo had before its version 4, and mongosh has, by what does that now.
+FORMER = {
+    "collection_names": "list_collection_names()",
+    "count": "count_documents(query)",
+    "database_names": "list_database_names()",
+    "ensure_index": "create_index(path)",
+    "find_and_modify": "find_one_and_update, find_one_and_replace or find_one_and_delete",
+    "group": "aggregate([{'$group': ..}])",
+    "initialize_ordered_bulk_op": "bulk_write(requests)",
+    "initialize_unordered_bulk_op": "bulk_write(requests, ordered=False)",
+    "inline_map_reduce": "aggregate(pipeline)",
+    "insert": "insert_one(document) or insert_many(documents)",
+    "list_collections": "list_collection_names()",
+    "map_reduce": "aggregate(pipeline)",
+    "remove": "delete_one(query) or delete_many(query)",
+    "save": "replace_one({'_id': ..}, document, upsert=True)",
+    "update": "update_one(query, update), update_many(query, update) or replace_one(query, document)",
+}
+
 # What pymongo's collections and databases have and these haven't, and what is no name of a collection, therefore.
 PROPERTIES = frozenset(["client", "codec_options", "read_concern", "read_preference", "write_concern"])
 
 
 def refuse(name: str, reason: str) -> NoReturn:
-    """Raises the error for something that can't be had."""
-    raise NotImplementedError(f"{name} can't be had: {reason}")
+    """Raises the error for something that isn't supported."""
+    raise NotImplementedError(f"{name} isn't supported: {reason}")
 
 
 def test_options(
@@ -129,7 +149,7 @@ def test_concern(options: Mapping[str, Any]) -> None:
 
 
 class WithAbsent:
-    """A class with methods that pymongo has and that can't be had: each raises when it is called."""
+    """A class with methods that pymongo has and that aren't supported: each raises when it is called."""
 
     __slots__ = ()
     _absent: Mapping[str, str] = {}
@@ -149,6 +169,18 @@ class WithAbsent:
         def _other(self, name: str) -> Any:
             """What a name means that nobody has."""
             raise AttributeError(f"{type(self).__name__} has no {name}")
+
+
+def no_method(kind: type, name: str) -> TypeError:
+    """The error for a call of what is no method, and so the name of a collection or a store. It names the method that
+    is meant, if that is known: by a former name, by one of mongosh's form, as `insertOne`, or by a mistyped one."""
+    import difflib
+
+    methods = [method for method in dir(kind) if not method.startswith("_")]
+    plain = re.sub("[A-Z]", lambda found: "_" + found[0].lower(), name)
+    meant = FORMER.get(name) or next(iter(difflib.get_close_matches(plain, methods, 1, 0.8)), None)
+    text = f"a {kind.__name__} has no method {name}"
+    return TypeError(f"{text}: use {meant}" if meant else text)
 
 
 def is_name(name: str) -> bool:

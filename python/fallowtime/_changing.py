@@ -1,6 +1,6 @@
 """Changing: the methods of a collection that put documents in, change them and remove them.
 
-Each of them is read first, and refused if it can't be had, before anything is sent: it makes a step, which is done
+Each of them is read first, and refused if it isn't supported, before anything is sent: it makes a step, which is done
 then.
 """
 from __future__ import annotations
@@ -20,7 +20,7 @@ from ._items import ItemUpdate, item_update_of
 from ._part import FIRST, Part
 from ._query import are_operators, are_same_id, encode_query, ids_of, is_one_look
 from ._reading import File, Reading
-from ._requests import Document, Found, give_id, is_stricter, test_id, with_id
+from ._requests import Document, Found, give_id, is_by_id, is_stricter, test_id, with_id
 from ._results import BulkWriteResult, DeleteResult, InsertManyResult, InsertOneResult, UpdateResult
 from ._steps import step_of
 from ._update import encode_update
@@ -270,11 +270,10 @@ class Changing(Reading):
         """Removes the first document that a query selects, and returns it, or None."""
         self._test_change("find_one_and_delete", filter, hint, options)
         wanted, query = wanted_of(projection, sort), encode_query(filter)
-        if not is_one_look(filter):
-            self._prepare(filter)
+        if not is_by_id(filter):
             return self._find_and("find-and-delete", [query], wanted)
         with self._session.lock:
-            found = self._seek(filter)
+            found = self._seek(filter, wanted.part)
             if found is None:
                 return None
             self._ask("remove", found[0])
@@ -294,8 +293,7 @@ class Changing(Reading):
             return self._replace_or_put_in(None, replacement, own, upsert)
 
         with self._session.lock:
-            if not is_one_look(filter):
-                self._prepare(filter)
+            if not is_by_id(filter):
                 try:
                     return self._find_and("find-and-replace", [query, text], wanted, put_in if upsert else None)
                 except Refused as refused:

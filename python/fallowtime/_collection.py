@@ -1,9 +1,9 @@
-"""A collection, with the methods of pymongo's that can be had."""
+"""A collection, with those methods of pymongo's that are supported."""
 from __future__ import annotations
 
 from typing import TYPE_CHECKING, Any, Dict, NoReturn
 
-from ._absent import OF_COLLECTION, WithAbsent, is_name, test_concern, test_options
+from ._absent import OF_COLLECTION, WithAbsent, is_name, no_method, test_concern, test_options
 from ._aggregating import Aggregating
 
 if TYPE_CHECKING:
@@ -63,7 +63,8 @@ class Collection(Aggregating, WithAbsent):
     __iter__ = None
 
     def __call__(self, *arguments: Any, **options: Any) -> NoReturn:
-        raise TypeError(f"a collection isn't called, and has no method {self._name.rpartition('.')[2]}")
+        owner, _, name = self._name.rpartition(".")
+        raise no_method(type(self) if owner else type(self._store), name)
 
     def __eq__(self, other: object) -> Any:
         if isinstance(other, Collection):

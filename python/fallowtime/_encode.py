@@ -13,7 +13,7 @@ from collections.abc import Mapping
 from json import encoder
 from typing import Any, Callable, Dict, FrozenSet, Optional
 
-from ._errors import refusal
+from ._errors import InvalidDocument, refusal
 from ._values import (Binary, Code, DatetimeMS, DBPointer, Int64, MaxKey, MinKey, ObjectId, Regex, Symbol, Timestamp,
                       Undefined, milliseconds_of, options_of)
 
@@ -241,7 +241,7 @@ def _rare_value(value: Any, kind: type, level: int) -> str:
         return _members(value.as_doc(), level, RESERVED)
     write = _writer_of(kind)
     if write is None:
-        raise TypeError(f"{value!r} of the class {kind.__name__} has no kind of BSON")
+        raise InvalidDocument(f"{value!r} of the class {kind.__name__} has no kind of BSON")
     return write(value)
 
 
@@ -265,7 +265,7 @@ def _members(document: Mapping[str, Any], level: int, reserved: FrozenSet[str]) 
     parts = []
     for key, value in document.items():
         if not isinstance(key, str):
-            raise TypeError(f"a key is a text, and not {key!r}")
+            raise InvalidDocument(f"a key is a text, and not {key!r}")
         if key in reserved:
             raise _Reserved
         # As `_value` begins, without a call of it: most values have no value in them.

@@ -74,6 +74,14 @@ class CollectionInvalid(FallowtimeError):
     _pymongos = "CollectionInvalid"
 
 
+class InvalidDocument(TypeError):
+    """A document has a key or a value that BSON hasn't."""
+
+
+class InvalidId(ValueError):
+    """An ObjectId isn't made of such a text or such bytes."""
+
+
 class OperationFailure(FallowtimeError):
     """A request wasn't done. `code` is MongoDB's number of such an error, `details` what MongoDB says more; each is
     None if there is none."""

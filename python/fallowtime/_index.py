@@ -8,6 +8,8 @@ from ._absent import IDLE_OF_INDEX, OPTIONS_OF_INDEX, refuse, test_options
 
 # pymongo's words for the two directions of keys. An index has none here, and serves both.
 ASCENDING, DESCENDING = 1, -1
+# Those for indexes of other sorts, which are refused by name as one is made.
+GEO2D, GEOSPHERE, HASHED, TEXT = "2d", "2dsphere", "hashed", "text"
 # The index on _id that every collection has, by its name and its keys.
 ID_NAME, ID_KEYS = "_id_", [("_id", ASCENDING)]
 # The version of indexes that MongoDB reports.

@@ -19,7 +19,7 @@ from ._errors import BAD_VALUE, CONFLICT, NOT_PARSED, THROUGH, InvalidWriteError
 from ._query import are_operators, is_regex
 
 # A step of a path through items: all of them, or those that the filter of a name chooses. And the item that the query
-# of the update found, which can't be had.
+# of the update found, which isn't supported.
 ALL_ITEMS = "$[]"
 STEP = re.compile(r"\$\[.*\]")
 NAME = re.compile(r"[a-z][a-zA-Z0-9]*")

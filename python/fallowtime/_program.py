@@ -67,7 +67,8 @@ def find_program() -> str:
     for checkout in checkouts():
         if is_program(checkout / NAME):
             return str(checkout / NAME)
-    raise Ended(f"there is no program {NAME}: ./install of its checkout puts it on the path, or {VARIABLE} names it")
+    raise Ended(f"there is no program {NAME}: the wheel for manylinux has it, and so has the package for Debian; in a checkout "
+                f"./install puts it on the path; or {VARIABLE} names it")
 
 
 def absolute(path: "os.PathLike[str] | str") -> str:

@@ -39,7 +39,7 @@ def are_operators(value: Any) -> bool:
 def _plain_operand(value: Any) -> str:
     """A value that is asked for elsewhere than under `$eq`, where a regular expression would search."""
     if is_regex(value):
-        raise NotImplementedError("a search by a regular expression can't be had; under $eq it is a value")
+        raise NotImplementedError("a search by a regular expression as a value isn't supported: under $regex it searches")
     return encode_value(value)
 
 
@@ -109,12 +109,12 @@ def _regex(value: Any) -> str:
         if isinstance(value.pattern, str) and _OPTIONS.issuperset(options):
             # Those beside it are refused if it has its own, so it has none for what is done in any case.
             return encode_value(Regex(value.pattern, options.replace("u", "")))
-    raise NotImplementedError(f"$regex can be had as a text or with the options imsux, and not as {value!r}")
+    raise NotImplementedError(f"$regex takes a text, or a pattern with the options imsux, and not {value!r}")
 
 
 def _options(value: Any) -> str:
     if not isinstance(value, str) or not _OPTIONS.issuperset(value):
-        raise NotImplementedError(f"$options can be had of the letters imsux, and not as {value!r}")
+        raise NotImplementedError(f"$options takes the letters imsux, and not {value!r}")
     return encode_text(value)
 
 
@@ -149,12 +149,12 @@ _OPERATORS: Dict[str, Callable[[Any], str]] = {
 
 def _operators(value: "Mapping[str, Any]") -> str:
     if "$options" in value and "$regex" not in value:
-        raise NotImplementedError("$options can't be had in a query without $regex")
+        raise NotImplementedError("$options isn't supported in a query without $regex")
     parts = []
     for name, operand in value.items():
         write = _OPERATORS.get(name)
         if write is None:
-            raise NotImplementedError(f"the operator {name} can't be had in a query")
+            raise NotImplementedError(f"the operator {name} isn't supported in a query")
         parts.append(encode_text(name) + ":" + write(operand))
     return "{" + ",".join(parts) + "}"
 
@@ -173,7 +173,7 @@ def _entry(path: Any, value: Any) -> str:
     if path == "$comment":
         return encode_text(path) + ":" + encode_value(value)
     if path.startswith("$"):
-        raise NotImplementedError(f"the operator {path} can't be had at the top of a query")
+        raise NotImplementedError(f"the operator {path} isn't supported at the top of a query")
     return encode_text(path) + ":" + (_operators(value) if are_operators(value) else _plain_operand(value))
 
 
@@ -197,21 +197,20 @@ def is_one_look(query: "Mapping[str, Any]") -> bool:
 
 
 def asks_for_plain_number(query: "Mapping[str, Any]") -> bool:
-    """Whether a query is one for an `_id` alone that is an `int` or a `float`. This is the first question of most requests,
-    so it is a quick one."""
+    """Whether a query is one for an `_id` alone that is an `int` or a `float`: quickly, as most requests ask this."""
     return len(query) == 1 and type(query.get("_id")) in NUMBERS
 
 
 def has_many_ids(value: Any) -> bool:
-    """Whether `_id`s that are equal to a value may be written in many ways: as a number is in each kind and, as a decimal,
-    with more or fewer zeros, and so is what is made of several values."""
+    """Whether `_id`s that are equal to a value may be written in many ways: as a number is in each kind and, as a
+    decimal, with more or fewer zeros, and so is what is made of several values."""
     return (is_numeral(value) or isinstance(value, (Mapping, list, tuple, Code))
             or any(is_foreign(value, name) for name in ("Code", "DBRef")))
 
 
 def ids_of(value: Any) -> List[str]:
-    """The `_id`s that are equal to a value, as JSON, its own one first: a text and a symbol are. At most one document has
-    each of them."""
+    """The `_id`s that are equal to a value, as JSON, its own one first: a text and a symbol are. At most one document
+    has each of them."""
     own = encode_value(value)
     if isinstance(value, Symbol):
         return [own, encode_text(str(value))]
@@ -232,6 +231,6 @@ def is_numeral(value: Any) -> bool:
 
 
 def _number_of(value: Any) -> Any:
-    """A number that compares exactly with those of other kinds. All that are no number are a NaN that can be compared."""
+    """A number that compares exactly with those of other kinds. Each NaN is one that can be compared."""
     number = value.to_decimal() if is_foreign(value, "Decimal128") else value
     return float("nan") if isinstance(number, decimal.Decimal) and number.is_nan() else number

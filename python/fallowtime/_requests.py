@@ -39,8 +39,8 @@ class Selection:
     __slots__ = ("query", "is_by_id", "are_whole", "_fetch")
 
     def __init__(self, query: str, is_by_id: bool, are_whole: bool, fetch: Callable[[Part], List[Tree]]) -> None:
-        # As the program reads it; whether it asks for an `_id` that the program's index serves, if it can serve it at all;
-        # and whether the documents come by one look for their `_id`, as a whole, whatever fields are wanted.
+        # As the program reads it; whether it asks for a number as `_id`, which an index may serve; and whether the
+        # documents come by one look for their `_id`, as a whole, whatever fields are wanted.
         self.query, self.is_by_id, self.are_whole = query, is_by_id, are_whole
         self._fetch = fetch
 
@@ -100,8 +100,8 @@ class Requests:
             return part.of(found) if len(found) < 2 else self._ask_part(query, part)
 
     def _prepare(self, query: Document) -> None:
-        """Makes an index on `_id`, once in the life of the store, if a query asks for a number there, which may be written
-        in many ways, so that the program reads few documents. Without an index it reads all, with the same answer."""
+        """Makes an index on `_id`, once in the life of the store, if a query asks for a number there, which may be
+        written in many ways, so that the program reads few documents. Without it it reads all, with the same answer."""
         indexed = self._store._indexed_by_id
         if self._name in indexed or not self._session.has_indexes or not asks_for_number(query):
             return
@@ -186,6 +186,11 @@ class Requests:
 def asks_for_number(query: Document) -> bool:
     """Whether a query is one for an `_id` alone that is a number."""
     return asks_for_plain_number(query) or asks_for_id(query) and is_numeral(query["_id"])
+
+
+def is_by_id(query: Document) -> bool:
+    """Whether a query is one for an `_id` alone that is found without a scan."""
+    return is_one_look(query) or asks_for_number(query)
 
 
 def update_result(answer: Any, decoder: Decoder) -> UpdateResult:

@@ -46,8 +46,8 @@ class Session:
         self._has_room, self._has_answer = select.poll(), select.poll()
         self._has_room.register(self._input, select.POLLOUT)
         self._has_answer.register(self._output, select.POLLIN)
-        # What isn't sent yet of the last question, while its answer didn't come; else None. What came of the answer, and
-        # how the answer begins, if that is known.
+        # What isn't sent yet of the last question, while its answer didn't come; else None. What came of the answer,
+        # and how the answer begins, if that is known.
         self._due: Optional[memoryview] = None
         self._pieces: List[bytes] = []
         self._beginning = b""
@@ -180,8 +180,8 @@ class Session:
         return self._receive(patience)
 
     def _ask_for_a_beginning(self) -> None:
-        """Ends the line of which nobody knows how much was sent, and asks for nothing, with an id: what comes in front of
-        that answer is passed over."""
+        """Ends the line of which nobody knows how much was sent, and asks for nothing, with an id: what comes in front
+        of that answer is passed over."""
         self._losses += 1
         beginning = b'{"id":"loss %d"' % self._losses
         self._pieces, self._beginning, self._due = [], beginning, memoryview(b"\n%s,\"do\":[]}\n" % beginning)

@@ -47,7 +47,7 @@ def step_of(collection: "Changing", request: Any) -> Step:
 
 
 def _options(request: Any) -> Dict[str, Any]:
-    """What else a request has, which can't be had."""
+    """What else a request has, which isn't supported."""
     collation = getattr(request, "_collation", None)
     return {} if collation is None else {"collation": collation}
 

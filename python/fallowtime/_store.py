@@ -5,7 +5,7 @@ import os
 import weakref
 from typing import TYPE_CHECKING, Any, Dict, List, NoReturn, Optional, Set, Union
 
-from ._absent import OF_STORE, WithAbsent, is_name, refuse, test_concern, test_options
+from ._absent import OF_STORE, WithAbsent, is_name, no_method, refuse, test_concern, test_options
 from ._collection import Collection
 from ._decode import Decoder
 from ._errors import CollectionInvalid
@@ -88,7 +88,9 @@ class Store(WithAbsent):
     __iter__ = None
 
     def __call__(self, *arguments: Any, **options: Any) -> NoReturn:
-        raise TypeError("a store isn't called, and has no such method")
+        if self._client is None:
+            raise TypeError("a store isn't called")
+        raise no_method(type(self._client), self.name)
 
     def get_collection(self, name: str, **options: Any) -> Collection:
         """The collection of a name. Options of reading and writing several servers mean nothing here."""
@@ -179,7 +181,7 @@ def open(path: Path, *, wait: Optional[int] = None, tz_aware: bool = False, read
     can be changed, and nobody has to wait: each request is a process of the program that takes no lock, and its answer
     what every request that was answered before has left, of this process and of any other one.
 
-    `Ended` if the file can't be had; its `kind` says why: ``"Busy"`` if another process has it, ``"NoFile"`` if there
-    is none that could be read.
+    `Ended` if the file can't be opened; its `kind` says why: ``"Busy"`` if another process has it, ``"NoFile"`` if
+    there is none that could be read.
     """
     return Store(path, wait, tz_aware, readonly)

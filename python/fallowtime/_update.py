@@ -1,4 +1,4 @@
-"""Updates in MongoDB's operators, as JSON that the program reads. What can't be had is a NotImplementedError before
+"""Updates in MongoDB's operators, as JSON that the program reads. What isn't supported is a NotImplementedError before
 anything is sent."""
 from __future__ import annotations
 
@@ -17,7 +17,7 @@ OPERATORS = frozenset([
 
 
 def encode_update(method: str, update: Any) -> str:
-    """An update as JSON. NotImplementedError for operators that can't be had."""
+    """An update as JSON. NotImplementedError for operators that aren't supported."""
     if isinstance(update, (list, tuple)):
         refuse(f"a pipeline of {method}", "an update has operators, as $set")
     if not isinstance(update, Mapping):

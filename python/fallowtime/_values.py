@@ -9,6 +9,8 @@ import threading
 import time
 from typing import Any, Mapping, Optional, Union
 
+from ._errors import InvalidId
+
 EPOCH = datetime.datetime(1970, 1, 1)
 UTC = datetime.timezone.utc
 MILLISECOND = datetime.timedelta(milliseconds=1)
@@ -105,11 +107,11 @@ class ObjectId(_Ordered):
             self._binary = _MAKER.make()
         elif isinstance(oid, bytes):
             if len(oid) != 12:
-                raise ValueError(f"an ObjectId has 12 bytes, and not {len(oid)}")
+                raise InvalidId(f"an ObjectId has 12 bytes, and not {len(oid)}")
             self._binary = bytes(oid)
         elif isinstance(oid, str):
             if not re.fullmatch("[0-9a-fA-F]{24}", oid):
-                raise ValueError(f"an ObjectId has 24 hexadecimal digits, and not {oid!r}")
+                raise InvalidId(f"an ObjectId has 24 hexadecimal digits, and not {oid!r}")
             self._binary = bytes.fromhex(oid)
         else:
             binary = self._key_of(oid)

@@ -41,6 +41,61 @@ class WithOrders(WithFolder):
         return caught.exception
 
 
+class Names(WithFolder):
+    """What programs that are written for pymongo import."""
+
+    def test_names_that_are_imported(self):
+        for module, names in {
+            "fallowtime": "WriteConcern ReadPreference CursorType TEXT HASHED GEO2D GEOSPHERE ASCENDING MongoClient",
+            "fallowtime.collection": "Collection ReturnDocument", "fallowtime.database": "Database",
+            "fallowtime.cursor": "Cursor CursorType", "fallowtime.command_cursor": "CommandCursor",
+            "fallowtime.mongo_client": "MongoClient", "fallowtime.read_concern": "ReadConcern",
+            "fallowtime.results": "BulkWriteResult DeleteResult InsertManyResult InsertOneResult UpdateResult",
+            "fallowtime.write_concern": "WriteConcern", "fallowtime.read_preferences": "ReadPreference Secondary",
+        }.items():
+            for name in names.split():
+                self.assertTrue(hasattr(importlib.import_module(module), name), f"{module}.{name}")
+
+    def test_what_they_do(self):
+        """The options mean nothing, or are refused as they are used."""
+        from fallowtime.read_concern import ReadConcern
+
+        store = self.open()
+        self.assertIsInstance(store, importlib.import_module("fallowtime.database").Database)
+        orders = store.get_collection("orders", write_concern=fallowtime.WriteConcern(w="majority", j=True),
+                                      read_preference=fallowtime.ReadPreference.SECONDARY_PREFERRED,
+                                      read_concern=ReadConcern("majority"))
+        orders.insert_one({"_id": 1})
+        self.assertEqual(list(orders.find(cursor_type=fallowtime.CursorType.NON_TAILABLE)), [{"_id": 1}])
+        self.assertEqual(repr(fallowtime.WriteConcern(w=1, wtimeout=5)), "WriteConcern(w=1, wtimeout=5)")
+        self.assertEqual(fallowtime.WriteConcern(w=1), fallowtime.WriteConcern(1))
+        self.assertNotEqual(fallowtime.WriteConcern(w=1), fallowtime.WriteConcern(2))
+        self.assertEqual(fallowtime.ReadPreference.NEAREST.name, "Nearest")
+        self.assertRaisesRegex(NotImplementedError, "linearizable", orders.with_options,
+                               read_concern=ReadConcern("linearizable"))
+        self.assertRaisesRegex(NotImplementedError, "cursor_type", orders.find,
+                               cursor_type=fallowtime.CursorType.TAILABLE)
+        for kind in fallowtime.TEXT, fallowtime.HASHED, fallowtime.GEO2D, fallowtime.GEOSPHERE:
+            self.assertRaisesRegex(NotImplementedError, kind, orders.create_index, [("a", kind)])
+
+    def test_methods_of_before(self):
+        """A call of a method of pymongo 3 or of mongosh names the one that is meant."""
+        store = self.open()
+        for call, meant in [
+            (store.orders.insert, "a Collection has no method insert: use insert_one"),
+            (store.orders.save, "replace_one"), (store.orders.count, "count_documents"),
+            (store.orders.update, "update_one"), (store.orders.remove, "delete_one"),
+            (store.orders.insertOne, "use insert_one$"), (store.orders.find_on, "use find_one$"),
+            (store.list_collections, "a Store has no method list_collections: use list_collection_names"),
+            (store.orders.frobnicate, "a Collection has no method frobnicate$"),
+        ]:
+            with self.assertRaisesRegex(TypeError, meant):
+                call({})
+        with fallowtime.MongoClient(self.folder / "data") as client:
+            self.assertRaisesRegex(TypeError, "a MongoClient has no method database_names: use list_database_names",
+                                   client.database_names)
+
+
 class Errors(WithOrders):
     def test_a_key_that_is_there(self):
         error = self.assert_fails(11000, self.orders.insert_one, {"_id": 2}, kind=fallowtime.DuplicateKeyError)
@@ -70,6 +125,30 @@ class Errors(WithOrders):
             copy = pickle.loads(pickle.dumps(one))
             self.assertEqual((type(copy).__name__, str(copy), copy.args), (type(one).__name__, str(one), one.args))
             self.assertEqual(getattr(copy, "details", None), getattr(one, "details", None))
+
+    def test_those_that_are_only_caught(self):
+        """All classes of pymongo's errors are there, below those of which they are kinds."""
+        errors = importlib.import_module("fallowtime.errors")
+        for name, base in [
+            ("AutoReconnect", errors.ConnectionFailure), ("NetworkTimeout", errors.AutoReconnect),
+            ("ServerSelectionTimeoutError", errors.AutoReconnect), ("NotPrimaryError", errors.AutoReconnect),
+            ("CursorNotFound", errors.OperationFailure), ("ExecutionTimeout", errors.OperationFailure),
+            ("WTimeoutError", errors.WriteConcernError), ("WriteConcernError", errors.OperationFailure),
+            ("ProtocolError", errors.PyMongoError), ("InvalidURI", errors.ConfigurationError),
+            ("DocumentTooLarge", errors.InvalidDocument), ("EncryptionError", errors.PyMongoError),
+        ]:
+            self.assertTrue(issubclass(getattr(errors, name), base), name)
+        for name in errors.__all__:
+            self.assertTrue(issubclass(getattr(errors, name), Exception) and getattr(errors, name).__doc__, name)
+        if importlib.util.find_spec("pymongo") is not None:
+            script = ("import pymongo.errors as theirs\n"
+                      "print(*(name for name in dir(theirs) if name[0] != '_'"
+                      " and getattr(getattr(theirs, name), '__module__', '') == theirs.__name__))")
+            theirs = subprocess.run([sys.executable, "-c", script], capture_output=True, text=True, check=True).stdout
+            self.assertLess(set(theirs.split()), set(errors.__all__))
+        self.assertRaises(errors.InvalidDocument, self.orders.insert_one, {"a": {1}})
+        self.assertRaises(errors.InvalidDocument, self.orders.insert_one, {1: "a"})
+        self.assertRaises(errors.InvalidId, ObjectId, "x")
 
     def test_they_are_pymongos_once_it_is_imported(self):
         """In a process of its own, as what is imported stays so."""
@@ -339,7 +418,7 @@ class FindingAndChanging(WithOrders):
         result, commands = self.requests(orders.replace_one, {"x": 7}, {"x": 8}, upsert=True)
         self.assertEqual((type(result.upserted_id), commands), (ObjectId, ["replace-one"]))
         self.assertEqual(self.requests(orders.find_one_and_delete, {"_id": 1}, ["x"]),
-                         ({"_id": 1, "x": 0}, ["index", "find-and-delete"]))
+                         ({"_id": 1, "x": 0}, ["index", "find", "remove"]))
         orders.insert_one({"_id": "x", "x": 1})
         self.assertEqual(self.requests(orders.find_one_and_delete, {"_id": "x"}, ["x"]),
                          ({"_id": "x", "x": 1}, ["get", "remove"]))

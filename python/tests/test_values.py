@@ -209,7 +209,7 @@ class Reserved(WithFolder):
         with self.open() as store:
             collection = store["c"]
             self.assertEqual(collection.import_(self.folder / "in.bson"), 1)
-            self.assert_refused("ReservedKey", collection.find_one, 1, key="a.$oid")
+            self.assert_refused("ReservedKey", collection.find_one, 1, key="a.$oid", document=0)
             self.assert_refused("ReservedKey", collection.find().next, key="a.$oid", document=0)
             self.assertEqual(collection.update_one({"_id": 1}, {"$set": {"b": 1}}).modified_count, 1)
             self.assertEqual(collection.update_one({"_id": 1}, {"$unset": {"b": 1}}).modified_count, 1)
@@ -220,7 +220,7 @@ class Reserved(WithFolder):
             self.assert_refused("ReservedKey", collection.find_one_and_update, {"b": None}, {"$set": {"b": 1}},
                                 key="a.$oid")
             self.assertEqual((collection.distinct("b"), collection.count_documents({"b": 1})), ([1], 1))
-            self.assert_refused("ReservedKey", collection.find_one_and_delete, {"_id": 1}, key="a.$oid")
+            self.assert_refused("ReservedKey", collection.find_one_and_delete, {"_id": 1}, key="a.$oid", document=0)
             self.assertEqual(collection.find_one_and_update({"b": 1}, {"$set": {"b": 2}}, ["b"]), {"_id": 1, "b": 1})
             self.assertEqual(repr(collection.replace_one({"_id": 1}, {"b": 1})), repr(fallowtime.UpdateResult(1, 1)))
             self.assert_same(collection.find_one(1), {"_id": 1, "b": 1})
