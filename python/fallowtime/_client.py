@@ -11,6 +11,8 @@ from ._program import absolute
 from ._store import Path, Store
 
 ENDING = ".db"
+# The version of MongoDB that is reported.
+VERSION = [4, 4, 0, 0]
 # What no name of a store may have, as in MongoDB.
 WRONG = frozenset(' /\\."$\0')
 
@@ -87,11 +89,10 @@ class MongoClient(WithAbsent):
         return sorted(name[:-len(ENDING)] for name in names if name.endswith(ENDING) and not WRONG & set(name[:-3]))
 
     def server_info(self, **options: Any) -> Dict[str, Any]:
-        """The version of the package."""
+        """The version of MongoDB whose names and meaning are here, by which programs see what they may ask for, as a
+        relay has it."""
         test_options("server_info", options)
-        from . import __version__
-
-        return {"version": __version__, "ok": 1.0}
+        return {"version": ".".join(map(str, VERSION[:3])), "versionArray": list(VERSION), "ok": 1.0}
 
     def close(self) -> None:
         """Closes all stores. Nothing is asked for after that. It may be called again."""

@@ -148,7 +148,7 @@ class Clients(WithFolder):
             self.assertIs(client.shop.orders.database.client, client)
             self.assertEqual((client["two"].name, client.two.path), ("two", str(folder / "two.db")))
             self.assertEqual(client.list_database_names(), ["shop", "two"])
-            self.assertEqual(client.server_info(), {"version": fallowtime.__version__, "ok": 1.0})
+            self.assertEqual(client.server_info(), {"version": "4.4.0", "versionArray": [4, 4, 0, 0], "ok": 1.0})
             self.assertEqual(repr(client), f"fallowtime.MongoClient({str(folder)!r})")
         self.assertRaises(fallowtime.InvalidOperation, lambda: client.shop)
         client.close()
