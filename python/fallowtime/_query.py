@@ -221,7 +221,7 @@ def are_same_id(one: Any, other: Any) -> bool:
     """Whether two values are equal as `_id`s in a query, so that a document may have either of them."""
     if is_numeral(one) and is_numeral(other):
         first, second = _number_of(one), _number_of(other)
-        return first == second or first != first and second != second
+        return bool(first == second or first != first and second != second)
     return encode_value(one) in ids_of(other)
 
 
