@@ -550,7 +550,7 @@ for name in "bin/bson_json", "share/man/man1/fallowtime.1":
 os.umask(0o077)
 status, out, errors = run(there / "install", prefix)
 os.umask(0o022)
-holds("installed", (status, errors), (0, f"install: fallowtime 1.2.3 (commit abcdef0, quick)\ninstall: {prefix}/bin isn't on the path\n"))
+holds("installed", (status, errors), (0, f"install: fallowtime 1.2.3 (commit abcdef0, quick)\ninstall: {prefix}/bin isn't on the path: export PATH=\"{prefix}/bin:$PATH\", or for ~/.local on Debian log in anew\n"))
 holds("each file is printed", lines_of(out), files(prefix))
 for path in map(pathlib.Path, files(prefix)):
     wanted = 0o755 if path.name in [*NAMES, "install"] and "share" not in path.parts else 0o644
