@@ -81,10 +81,12 @@ def lines_of(text):
 def checkout():
     """A checkout with the scripts of this one, and nothing to build from."""
     there = pathlib.Path(tempfile.mkdtemp(dir=FOLDER))
-    for name in [*NAMES, "install", "LICENSE", "README.md"]:
+    for name in [*NAMES, "install", "LICENSE", "README.md", "CHANGELOG.md"]:
         shutil.copy(ROOT / name, there)
-    for folder in "tools", "man", "completions", "docs":
-        shutil.copytree(ROOT / folder, there / folder, ignore=shutil.ignore_patterns("__pycache__", "development"))
+    for folder in "tools", "man", "completions", "docs", "samples":
+        shutil.copytree(ROOT / folder, there / folder, ignore=shutil.ignore_patterns("__pycache__"))
+    (there / "python").mkdir()
+    shutil.copy(ROOT / "python/README.md", there / "python")
     write(there / "VERSION", "1.2.3\n")
     return there
 
@@ -549,7 +551,7 @@ for name in "bin/bson_json", "share/man/man1/fallowtime.1":
 os.umask(0o077)
 status, out, errors = run(there / "install", prefix)
 os.umask(0o022)
-holds("installed", (status, errors), (0, f"install: fallowtime 1.2.3 (commit abcdef0, quick)\ninstall: {prefix}/bin isn't on the path\n"))
+holds("installed", (status, errors), (0, f"install: fallowtime 1.2.3 (commit abcdef0, quick)\ninstall: {prefix}/bin isn't on the path: export PATH=\"{prefix}/bin:$PATH\", or for ~/.local on Debian log in anew\n"))
 holds("each file is printed", lines_of(out), files(prefix))
 for path in map(pathlib.Path, files(prefix)):
     wanted = 0o755 if path.name in [*NAMES, "install"] and "share" not in path.parts else 0o644
