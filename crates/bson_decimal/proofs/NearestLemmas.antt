@@ -1,16 +1,16 @@
 -- No decimal is nearer.
-use Rattle.std.proofs.Common.{◌≡◌, ℕ, zero, suc, ◌+◌, ◌-◌, ◌*◌, ◌/◌, ◌%◌, ◌^◌, ◌<◌, ◌≤◌, ◌⊎◌, ◌==◌, inl, inr, Bool, true, false, if◌then◌else◌, refl, sym, ap, ◌∙◌, subst, arith, lit<, lit≤, mul_comm, mul_assoc, le_trans, mod-lt, div-add-mod', mul-le-mul_right}
+use Rattle.std.proofs.Common.{◌≡◌, ℕ, zero, suc, ◌+◌, ◌-◌, ◌*◌, ◌/◌, ◌%◌, ◌^◌, ◌<◌, ◌≤◌, ◌⊎◌, ◌==◌, inl, inr, Bool, true, false, if◌then◌else◌, refl, sym, ap, ◌∙◌, subst, arith, lit<, mul_comm, mul_assoc, mod-lt, div-add-mod', mul-le-mul_right}
 use Rattle.std.specs.Prelude.{nat_lt, nat_le}
-use Rattle.std.specs.Cmp.{ranks}
+use Rattle.std.specs.Cmp.{nat_cmp_is, ranks}
 use Rattle.std.specs.Ordering.{MatchOrdering, nat_cmp, match_ordering}
 use Rattle.std.specs.declared.cmp.Ordering.{Ordering}
 use Rattle.std.specs.declared.cmp.Ordering.TheVariants.{Less, Equal, Greater}
-use Rattle.std.proofs.Math.Nat.{pow-suc, pow-le-pow_right}
+use Rattle.std.proofs.Math.Nat.{pow-le-pow_right}
 use Rattle.std.proofs.lemmas.Nat.{mul-le, pow-add, le-div}
 use Rattle.std.proofs.lemmas.Bool.{cases_lt}
 use Rattle.std.proofs.lemmas.Bool.Decides.{nat_tests}
-use Rattle.bson_decimal.specs.Arithmetic.{nearest, half_even, cut_from, fold_down, clamp, nearest_decimal, decimal_of, quotient, zeros_from, zeros_to_divide, infinity_times}
-use Rattle.bson_decimal.specs.Nearest.{distance, offset, IsNearestDecimal}
+use Rattle.bson_decimal.specs.Arithmetic.{nearest, cut_from, fold_down, clamp, nearest_decimal, decimal_of, quotient, zeros_from, zeros_to_divide, infinity_times}
+use Rattle.bson_decimal.specs.Nearest.{distance, offset, IsNearestDecimal, IsNearestMultiple}
 use Rattle.bson_decimal.specs.declared.decimal.Decimal.{Decimal}
 use Rattle.bson_decimal.specs.declared.decimal.Decimal.TheVariants.{NotANumber, Infinite, Finite}
 use Rattle.bson_decimal.proofs.RoundLemmas.{nearest_least, some_power}
@@ -60,6 +60,26 @@ by_parts n u a r q j e h (inr p) (inr g) =
 
 multiples : (n u j : ℕ) → 0 < u → distance n (nearest n u * u) ≤ distance n (j * u)
 multiples n u j h = by_parts n u (n / u) (n % u) (nearest n u) j (div-add-mod' n u) (mod-lt n h) (nearest_is n u) (cases_lt j (n / u + 1))
+
+even_at_tie : (n u : ℕ) → 2 * (n % u) ≡ u → nearest n u % 2 ≡ 0
+unfolding nearest
+even_at_tie n u h =
+    let half : Equal ≡ nat_cmp (2 * (n % u)) u = nat_cmp_is (2 * (n % u)) u Equal h in
+    ap (λ o. (n / u + match_ordering o 0 (n / u % 2) 1) % 2) (sym half) ∙ omega arith
+
+pub nearest_multiple : (n u : ℕ) → 0 < u → IsNearestMultiple n u (nearest n u)
+nearest_multiple n u h = by (nearest_is n u) (div-add-mod' n u) (mod-lt n h)
+  where
+    by : ((nearest n u ≡ n / u) × (2 * (n % u) ≤ u)) ⊎ ((nearest n u ≡ n / u + 1) × (u ≤ 2 * (n % u))) → n / u * u + n % u ≡ n → n % u < u → IsNearestMultiple n u (nearest n u)
+    by (inl p) e less =
+        let same : nearest n u * u ≡ n / u * u = ap (λ m. m * u) p.0 in
+        let half = p.1 in
+        (omega (arith, e, same, half), λ tie. even_at_tie n u (omega (arith, tie, e, same, half)))
+    by (inr p) e less =
+        let same : nearest n u * u ≡ (n / u + 1) * u = ap (λ m. m * u) p.0 in
+        let out : (n / u + 1) * u ≡ n / u * u + u = grind arith in
+        let half = p.1 in
+        (omega (arith, e, same, out, half, less), λ tie. even_at_tie n u (omega (arith, tie, e, same, out, half, less)))
 
 -- and at most half of the unit away
 half_below : (n u : ℕ) → 2 * (nearest n u * u) ≤ 2 * n + u

@@ -1,11 +1,15 @@
 -- That no decimal is nearer to an exact number than the one that stands for it.
-use Rattle.std.specs.Prelude.{ℕ, ◌+◌, ◌-◌, ◌*◌, ◌^◌, ◌<◌, ◌≤◌}
+use Rattle.std.specs.Prelude.{◌≡◌, ℕ, ◌+◌, ◌-◌, ◌*◌, ◌%◌, ◌^◌, ◌<◌, ◌≤◌}
 use Rattle.bson_decimal.specs.declared.decimal.Decimal.{Decimal}
 use Rattle.bson_decimal.specs.declared.decimal.Decimal.TheVariants.{NotANumber, Infinite, Finite}
 
 -- how far two numbers are apart
 abbrev pub distance : ℕ → ℕ → ℕ
 distance a b = a - b + (b - a)
+
+-- q times d is at most half of d away from n, and q is even if it is just that
+abbrev pub IsNearestMultiple : ℕ → ℕ → ℕ → Type 0
+IsNearestMultiple n d q = (2 * distance n (q * d) ≤ d) × (2 * distance n (q * d) ≡ d → q % 2 ≡ 0)
 
 -- what is added to an exponent beside its bias
 unfoldable pub offset : ℕ
