@@ -42,7 +42,8 @@ clamp s c e = if nat_le e 12287 then Finite s c e else fold_down s c (e - 12287)
 abbrev pub cut_digits : Bool → ℕ → ℕ → ℕ → ℕ → Decimal
 cut_digits s n d x k = clamp s (nearest n (d * 10 ^ k)) (x + k - 12352)
 
--- the decimal that is nearest to n / d times 10^x. To the exponent x, beside its bias, 12352 is added, so that none is under 0
+-- the decimal that is nearest to n / d times 10^x, of those whose exponents aren't below x: so of all, if n / d is whole or has more
+-- than 34 digits. To the exponent x, beside its bias, 12352 is added, so that none is under 0
 abbrev pub nearest_decimal : Bool → ℕ → ℕ → ℕ → Decimal
 nearest_decimal s n d x = cut_digits s n d x (cut_from n n d (12352 - x))
 
@@ -105,7 +106,7 @@ abbrev pub zeros_from : ℕ → ℕ → ℕ → ℕ → ℕ
 zeros_from zero c d z = z
 zeros_from (suc more) c d z = if c * 10 ^ z % d == 0 then z else zeros_from more c d (suc z)
 
--- with 68 zeros any quotient but 0 has more digits than a decimal
+-- with 68 zeros any quotient but 0 has more than 34 digits
 unfoldable pub zeros_to_divide : ℕ → ℕ → ℕ
 zeros_to_divide c d = zeros_from 68 c d 0
 

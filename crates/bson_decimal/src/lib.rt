@@ -2,6 +2,7 @@
 #![tactic(auto)]
 
 mod decimal;
+pub mod laws;
 mod products;
 mod quotients;
 mod remainders;
