@@ -83,17 +83,29 @@ fn need_of(levels: usize) -> usize {
     BASE + levels.min(MOST_LEVELS) * LEVEL
 }
 
-/// How many bytes of stack a program takes at the most that is started with these words. The documents of bson_json and
-/// of messages, and the requests of a session or of a list, come later, and may have the most levels.
-fn need_by(program: Program, words: &[String]) -> usize {
-    match (program, read_words(words)) {
-        (Program::Json, _) => DEEP,
-        (Program::Fallowtime, Some(Task::Session { messages: true, .. })) => DEEP,
-        (Program::Fallowtime, Some(Task::Session { .. })) => need_of(MOST_LEVELS),
-        (Program::Fallowtime, Some(Task::Command(task))) if task.command == Command::Apply => {
-            need_of(MOST_LEVELS)
+/// How many bytes of stack fallowtime takes at the most by these words. The requests of a session or of a list come
+/// later, and may have the most levels; so may the documents of messages.
+fn need_of_task(words: &[String]) -> usize {
+    match read_words(words) {
+        Some(Task::Session { messages: true, .. }) => DEEP,
+        Some(Task::Session { .. }) => need_of(MOST_LEVELS),
+        Some(Task::Command(task)) => {
+            if task.command == Command::Apply {
+                need_of(MOST_LEVELS)
+            } else {
+                need_of(most_levels(words))
+            }
         }
-        _ => need_of(most_levels(words)),
+        None => need_of(0),
+    }
+}
+
+/// How many bytes of stack a program takes at the most that is started with these words.
+fn need_by(program: Program, words: &[String]) -> usize {
+    match program {
+        Program::Fallowtime => need_of_task(words),
+        Program::Json => DEEP,
+        Program::Store => need_of(most_levels(words)),
     }
 }
 
