@@ -32,7 +32,7 @@ try() {
 }
 
 [ $# -gt 0 ] || set -- edits.py program.py scripts.py front.py terminal.py release.py files.py extended_json.py fallowtime.py fallowtime_lines.py \
-    sorted.py fields.py finds.py find_and.py upserts.py distinct.py pipelines.py indexes.py lists.py fallowtime_files.py pages.py stops.py torn.py python.py crud.py pymongo_programs.py relay.py readme.sh
+    sorted.py fields.py finds.py find_and.py upserts.py distinct.py pipelines.py indexes.py lists.py fallowtime_files.py pages.py stack.py stops.py torn.py python.py crud.py pymongo_programs.py relay.py readme.sh
 passed=0
 count=$#
 for test do
@@ -40,7 +40,7 @@ for test do
     edits.py) set -- ;;
     program.py | scripts.py | files.py | readme.sh) set -- "$work/bson_store" ;;
     extended_json.py) set -- "$work/bson_json" ;;
-    front.py | terminal.py | release.py | fallowtime.py | fallowtime_lines.py | sorted.py | fields.py | finds.py | find_and.py | upserts.py | distinct.py | pipelines.py | indexes.py | lists.py | fallowtime_files.py | pages.py | stops.py | torn.py | python.py | crud.py | pymongo_programs.py | relay.py) set -- "$work/fallowtime" ;;
+    front.py | terminal.py | release.py | fallowtime.py | fallowtime_lines.py | sorted.py | fields.py | finds.py | find_and.py | upserts.py | distinct.py | pipelines.py | indexes.py | lists.py | fallowtime_files.py | pages.py | stack.py | stops.py | torn.py | python.py | crud.py | pymongo_programs.py | relay.py) set -- "$work/fallowtime" ;;
     *) fail "there is no test $test" ;;
     esac
     case $test in
