@@ -5,6 +5,8 @@
 //! more. Where memory is limited (`ulimit -v`), the stack counts in it: as much is then asked for as memory, which is
 //! refused without harm, given back, and taken.
 
+ghost use Rattle.std.specs.Prelude.{◌<◌, ◌^◌};
+
 use crate::levels::{MOST_LEVELS, most_levels};
 use fallowtime_front::Program;
 use fallowtime_words::{Command, Task, read_words};
@@ -79,13 +81,17 @@ fn take(parts: usize) -> u8 {
 }
 
 /// How many bytes of stack requests of so many levels take at the most.
-fn need_of(levels: usize) -> usize {
+fn need_of(levels: usize) -> usize
+    ensures { result < 2 ^ 32 }
+{
     BASE + levels.min(MOST_LEVELS) * LEVEL
 }
 
 /// How many bytes of stack fallowtime takes at the most by these words. The requests of a session or of a list come
 /// later, and may have the most levels; so may the documents of messages.
-fn need_of_task(words: &[String]) -> usize {
+fn need_of_task(words: &[String]) -> usize
+    ensures { result < 2 ^ 32 }
+{
     match read_words(words) {
         Some(Task::Session { messages: true, .. }) => DEEP,
         Some(Task::Session { .. }) => need_of(MOST_LEVELS),
@@ -101,7 +107,9 @@ fn need_of_task(words: &[String]) -> usize {
 }
 
 /// How many bytes of stack a program takes at the most that is started with these words.
-fn need_by(program: Program, words: &[String]) -> usize {
+fn need_by(program: Program, words: &[String]) -> usize
+    ensures { result < 2 ^ 32 }
+{
     match program {
         Program::Fallowtime => need_of_task(words),
         Program::Json => DEEP,
