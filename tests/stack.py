@@ -268,23 +268,21 @@ def make_store():
             fail(f"document {number} isn't put in")
 
 
-def rows_of_page():
-    """The rows of the table of DECISIONS, of which each has its kind first, and then numbers."""
+def rows_of_page(column):
+    """The rows of the table of DECISIONS, by their kinds, as this column has them: numbers, or none yet."""
     text = (ROOT / "docs/development/DECISIONS.md").read_text(encoding="utf-8")
     table = text.partition("### The stack of a request")[2].partition("\n### ")[0]
-    for row in table.splitlines():
-        cells = [cell.strip() for cell in row.strip("|").split("|")]
-        if row.startswith("|") and re.match(r"\d", cells[1]):
-            yield cells[0], [list(map(int, re.findall(r"\d+", cell))) for cell in cells[1:]]
+    rows = [[cell.strip() for cell in row.strip("|").split("|")] for row in table.splitlines() if row.startswith("|")]
+    return {cells[0]: list(map(int, re.findall(r"\d+", cells[column]))) for cells in rows[2:]}
 
 
 def compare_with_page():
-    """No kind may take more than its row of the page says, in the column of this build."""
-    column = 0 if PROGRAM.parent.name == "quick" else 1
-    page = dict(rows_of_page())
+    """No kind may take more than its row of the page says in the column of this build, once that has numbers."""
+    quick = PROGRAM.parent.name == "quick"
+    page = rows_of_page(1 if quick else 2)
     for kind, row in measured():
-        written = page.get(kind, [])[column:column + 1]
-        if not written or not written[0] or any(found > most for found, most in zip(row, written[0], strict=True)):
+        written = page.get(kind)
+        if written is None or quick and not written or written and any(map(int.__gt__, row, written)):
             fail(f"{kind}: takes {row} kB, and DECISIONS has {written}")
         print(f"{kind}: {row} kB of stack", flush=True)
 
