@@ -40,7 +40,6 @@ LEVELS = 1, 50, 100
 MARGIN = 1.3
 # The least memory with which the system loads the program: with less it ends by a signal before it begins.
 LEAST = max(8 << 20, PROGRAM.stat().st_size + (1 << 20))
-REFUSED = 1, b"", b"refused: Memory\n"
 NO_MEMORY = b'{"error":"Memory"}\n'
 PTRACE_TRACEME, PTRACE_CONT, PTRACE_SETOPTIONS = 0, 7, 0x4200
 PTRACE_O_TRACEEXIT, PTRACE_O_EXITKILL, PTRACE_EVENT_EXIT = 0x40, 0x100000, 6
@@ -288,11 +287,13 @@ def compare_with_page():
 
 
 def is_well(found, wanted):
-    """Whether a run with little memory did as it does with all, or was refused; a line of a session may be."""
-    if found == wanted or found == REFUSED or (found[0] == 127 and b"loading shared libraries" in found[2]):
+    """Whether a run with little memory did as it does with all, or was refused by name; so may be a line of a session, or a message."""
+    if found == wanted or (found[0] == 1 and found[2].startswith(b"refused: Memory")) or (found[0] == 127 and b"loading shared" in found[2]):
         return True
     lines, whole = found[1].splitlines(keepends=True), wanted[1].splitlines(keepends=True)
-    return found[0] == wanted[0] and len(lines) == len(whole) and all(one in (other, NO_MEMORY) for one, other in zip(lines, whole))
+    if found[0] == wanted[0] and len(lines) == len(whole) and all(one in (other, NO_MEMORY) for one, other in zip(lines, whole)):
+        return True
+    return found[0] == 0 and b"ExceededMemoryLimit" in found[1]
 
 
 def try_little():
@@ -305,6 +306,8 @@ def try_little():
         memory = chance.randint(LEAST, 64 << 20)
         stack = int((64 << 10) * 128 ** chance.random())
         if (kind, levels) not in known:
+            # (a change is another one the first time)
+            run(words, given)
             known[kind, levels] = run(words, given)
         found = run(words, given, memory, stack)
         if not is_well(found, known[kind, levels]):
