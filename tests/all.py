@@ -34,7 +34,7 @@ NAMES = ["bson_store", "bson_json", "fallowtime"]
 TESTS = {
     "indexes.py": "fallowtime", "fallowtime.py": "fallowtime", "fallowtime_lines.py": "fallowtime", "release.py": "fallowtime",
     "finds.py": "fallowtime", "front.py": "fallowtime", "terminal.py": "fallowtime", "files.py": "bson_store", "scripts.py": "bson_store",
-    "fallowtime_files.py": "fallowtime", "pages.py": "fallowtime", "stops.py": "fallowtime", "torn.py": "fallowtime", "lists.py": "fallowtime",
+    "fallowtime_files.py": "fallowtime", "pages.py": "fallowtime", "stack.py": "fallowtime", "stops.py": "fallowtime", "torn.py": "fallowtime", "lists.py": "fallowtime",
     "python.py": "fallowtime", "crud.py": "fallowtime", "crud.py --relay": "fallowtime", "pymongo_programs.py": "fallowtime",
     "relay.py": "fallowtime", "readme.sh": "bson_store", "pipelines.py": "fallowtime", "sorted.py": "fallowtime", "fields.py": "fallowtime",
     "find_and.py": "fallowtime", "upserts.py": "fallowtime", "distinct.py": "fallowtime", "extended_json.py": "bson_json",

@@ -1,3 +1,4 @@
 pub mod Over
 pub mod Serving
 pub mod Applying
+pub mod Levels

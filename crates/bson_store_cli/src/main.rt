@@ -14,6 +14,7 @@ mod closed;
 mod commands;
 mod fallowtime;
 mod help;
+mod levels;
 mod stack;
 
 use crate::closed::{Hushed, Reader, Watched};
@@ -160,25 +161,30 @@ fn run_by_words(rt: &HostRuntime, words: &[String]) -> u8 {
     status
 }
 
-/// Runs the program of the name under which this one was started, and returns its status. Without a name and words it
-/// is bson_store.
-fn start(rt: &HostRuntime, words: &[String]) -> u8 {
-    let Some((name, words)) = words.split_first() else {
-        return run_store(rt, words);
-    };
-    match program_of(name.as_str()) {
+/// Runs the program of the name under which this one was started, if there is stack for its requests, and returns its
+/// status.
+fn run_program(rt: &HostRuntime, program: Program, words: &[String]) -> u8 {
+    if stack::reserve(rt, program, words).is_err() {
+        return report(rt.stderr(), ErrorKind::Memory);
+    }
+    match program {
         Program::Fallowtime => run_by_words(rt, words),
         Program::Json => run_json(rt, words),
         Program::Store => run_store(rt, words),
     }
 }
 
-/// Takes the stack that the programs need, and runs the one that the words of the command line name; returns its
-/// status, or that of a report that there is no memory for the stack.
-fn main(rt: HostRuntime) -> ExitCode {
-    if stack::reserve(&rt).is_err() {
-        return ExitCode::from(report(rt.stderr(), ErrorKind::Memory));
+/// Runs a program over the words of the command line, of which the first is its name, and returns its status. Without
+/// a name and words it is bson_store.
+fn start(rt: &HostRuntime, words: &[String]) -> u8 {
+    match words.split_first() {
+        Some((name, words)) => run_program(rt, program_of(name.as_str()), words),
+        None => run_program(rt, Program::Store, words),
     }
+}
+
+/// Runs the program that the words of the command line name, and returns its status.
+fn main(rt: HostRuntime) -> ExitCode {
     let status = match words_of(&rt) {
         Ok(words) => start(&rt, words.as_slice()),
         Err(error) => unread(error, &mut Counted::new(rt.stderr())),
