@@ -86,8 +86,8 @@ fn limits(rt: &HostRuntime) -> Limits {
     }
 }
 
-/// How many bytes a stack of so many at the most may grow by, at least: the system lets the words and the environment of a process have a
-/// quarter of it at the most, or 128 kB.
+/// How many bytes a stack of so many at the most may grow by, at least: the system lets the words and the environment
+/// of a process have a quarter of it at the most, or 128 kB.
 fn room(limit: u64) -> u64 {
     limit.saturating_sub((limit / 4).max(WORDS) + BEGUN)
 }
@@ -160,11 +160,12 @@ pub fn reserve(rt: &HostRuntime, program: Program, words: &[String]) -> Result<(
         return Err(AllocError);
     }
     if is_scarce(rt, limits) {
+        let Ok(mut zeros) = fs::File::open(rt, "/dev/zero") else {
+            return Err(AllocError);
+        };
         let asked: Vec<u8> = Vec::with_capacity(rt.alloc(), taken)?;
         drop(asked);
-        if let Ok(mut zeros) = fs::File::open(rt, "/dev/zero") {
-            let _ = take(&mut zeros, parts);
-        }
+        let _ = take(&mut zeros, parts);
     }
     Ok(())
 }
