@@ -73,7 +73,7 @@ fn limit_of(list: &str, name: &str) -> Option<u64> {
 }
 
 /// The limits of the process, or the usual ones if the system doesn't say them.
-fn limits(rt: &HostRuntime) -> Limits {
+fn read_limits(rt: &HostRuntime) -> Limits {
     let Ok(list) = fs::read_to_string(rt, LIMITS) else {
         return Limits {
             stack: USUAL_STACK,
@@ -155,7 +155,7 @@ fn need_by(program: Program, words: &[String]) -> usize
 pub fn reserve(rt: &HostRuntime, program: Program, words: &[String]) -> Result<(), AllocError> {
     let parts = need_by(program, words) / PART;
     let taken = (parts + 1) * PART;
-    let limits = limits(rt);
+    let limits = read_limits(rt);
     if room(limits.stack) < taken as u64 {
         return Err(AllocError);
     }
