@@ -188,6 +188,14 @@ KINDS = {
     "scopes of BSON to JSON": scopes_of_bson,
     "JSON to BSON": texts,
 }
+# What goes deeper than the levels of JSON: documents that are refused for their levels, and patterns for their groups or brackets.
+DEEPEST = [
+    ("BSON to JSON, 1001 levels", documents, 1001),
+    ("scopes of BSON to JSON, 2002 levels", scopes_of_bson, 2002),
+    ("a message, 1001 levels", message, 1001),
+    ("a pattern, 240 groups", pattern, 120),
+    ("a pattern, 40000 groups", pattern, 20000),
+]
 
 
 # ---- Runs.
@@ -252,12 +260,12 @@ def measured():
                 fail(f"{kind}, {levels} levels: {taken} bytes of stack, with {MARGIN} times as many over {bound_of(words, deep)}")
             row.append(taken >> 10)
         yield kind, row
-    for kind, make in ("BSON to JSON", documents), ("a message", message), ("scopes of BSON to JSON", scopes_of_bson):
-        words, given, _ = make(1001)
+    for kind, make, levels in DEEPEST:
+        words, given, deep = make(levels)
         taken = stack_at_end(words, given)
-        if taken * MARGIN > DEEP:
-            fail(f"{kind}, 1001 levels: {taken} bytes of stack, with {MARGIN} times as many over {DEEP}")
-        yield f"{kind}, 1001 levels", [taken >> 10]
+        if taken * MARGIN > bound_of(words, deep):
+            fail(f"{kind}: {taken} bytes of stack, with {MARGIN} times as many over {bound_of(words, deep)}")
+        yield kind, [taken >> 10]
 
 
 def make_store():

@@ -73,7 +73,7 @@ fn limit_of(list: &str, name: &str) -> Option<u64> {
 }
 
 /// The limits of the process, or the usual ones if the system doesn't say them.
-fn limits(rt: &HostRuntime) -> Limits {
+fn read_limits(rt: &HostRuntime) -> Limits {
     let Ok(list) = fs::read_to_string(rt, LIMITS) else {
         return Limits {
             stack: USUAL_STACK,
@@ -86,8 +86,8 @@ fn limits(rt: &HostRuntime) -> Limits {
     }
 }
 
-/// How many bytes a stack of so many at the most may grow by, at least: the system lets the words and the environment of a process have a
-/// quarter of it at the most, or 128 kB.
+/// How many bytes a stack of so many at the most may grow by, at least: the system lets the words and the environment
+/// of a process have a quarter of it at the most, or 128 kB.
 fn room(limit: u64) -> u64 {
     limit.saturating_sub((limit / 4).max(WORDS) + BEGUN)
 }
@@ -155,16 +155,17 @@ fn need_by(program: Program, words: &[String]) -> usize
 pub fn reserve(rt: &HostRuntime, program: Program, words: &[String]) -> Result<(), AllocError> {
     let parts = need_by(program, words) / PART;
     let taken = (parts + 1) * PART;
-    let limits = limits(rt);
+    let limits = read_limits(rt);
     if room(limits.stack) < taken as u64 {
         return Err(AllocError);
     }
     if is_scarce(rt, limits) {
+        let Ok(mut zeros) = fs::File::open(rt, "/dev/zero") else {
+            return Err(AllocError);
+        };
         let asked: Vec<u8> = Vec::with_capacity(rt.alloc(), taken)?;
         drop(asked);
-        if let Ok(mut zeros) = fs::File::open(rt, "/dev/zero") {
-            let _ = take(&mut zeros, parts);
-        }
+        let _ = take(&mut zeros, parts);
     }
     Ok(())
 }
