@@ -10,7 +10,7 @@ pub fn fractions()
 {}
 
 /// No decimal is nearer to a whole number of any size, times a power of ten, than the one that `decimal_of` gives for it:
-/// so none is nearer to an exact sum, difference or product.
+/// so none is nearer to an exact sum, difference or product. If one of another value is as near, the result is even.
 pub fn whole_numbers()
     ensures { (s : Bool) (n x : ℕ) → IsNearestDecimal n 1 x (decimal_of s n x) }
 {}
