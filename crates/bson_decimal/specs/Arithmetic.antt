@@ -36,9 +36,11 @@ cut_from (suc more) n d k = if nat_lt (nearest n (d * 10 ^ k)) (10 ^ 34) then k 
 abbrev pub fold_down : Bool → ℕ → ℕ → Decimal
 fold_down s c k = if nat_lt (c * 10 ^ k) (10 ^ 34) then Finite s (c * 10 ^ k) 12287 else Infinite s
 
+-- an exponent above the greatest one is folded down
 abbrev pub clamp : Bool → ℕ → ℕ → Decimal
 clamp s c e = if nat_le e 12287 then Finite s c e else fold_down s c (e - 12287)
 
+-- n / d times 10^x without k digits
 abbrev pub cut_digits : Bool → ℕ → ℕ → ℕ → ℕ → Decimal
 cut_digits s n d x k = clamp s (nearest n (d * 10 ^ k)) (x + k - 12352)
 
@@ -47,6 +49,7 @@ cut_digits s n d x k = clamp s (nearest n (d * 10 ^ k)) (x + k - 12352)
 abbrev pub nearest_decimal : Bool → ℕ → ℕ → ℕ → Decimal
 nearest_decimal s n d x = cut_digits s n d x (cut_from n n d (12352 - x))
 
+-- the same of a whole number
 abbrev pub decimal_of : Bool → ℕ → ℕ → Decimal
 decimal_of s n x = nearest_decimal s n 1 x
 
@@ -71,7 +74,7 @@ multiply (Finite s c e) (Finite t d f) = decimal_of (signs_differ s t) (c * d) (
 
 -- ---- sums
 
--- the sum of two numbers that are counted in the same unit, 10^x; no number, of a positive and a negative, is positive
+-- the sum of two numbers that are counted in the same unit, 10^x; if nothing is left of a positive and a negative one, it is 0, not -0
 abbrev pub signed_sum : Bool → ℕ → Bool → ℕ → ℕ → Decimal
 signed_sum s m t n x =
     if signs_differ s t then match_ordering (nat_cmp m n) (decimal_of t (n - m) x) (decimal_of false 0 x) (decimal_of s (m - n) x)
