@@ -427,11 +427,10 @@ const PLACES: &str =
 ";
 
 const MEMORY: &str =
-    "  `Memory`: the system gave no more memory. `import` and `load` hold all that they read: give them less at a time. A
-  document or a filter of many levels takes up to 2 MB of stack, which the program asks for as it starts; `ulimit -v`
-  counts them. With less than 4 MB of stack (`ulimit -s`) it asks for half, and may be ended by SIGSEGV at a deep one;
-  the file isn't harmed. In a program of your own `Memory` is also returned for JSON trees and bytes of more than 1000
-  levels.
+    "  `Memory`: the system gave no more memory. `import` and `load` hold all that they read: give them less at a time. The
+  levels of a request take stack, of which the program makes sure before it begins; `ulimit -v` counts it, and of
+  `ulimit -s` 5 MB are enough for every request. In a program of your own `Memory` is also returned for JSON trees and
+  bytes of more than 1000 levels.
 ";
 
 const READER: &str = "  `Reader`: standard input can't be read.
