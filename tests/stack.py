@@ -211,7 +211,7 @@ def run(words, given, memory=None, stack=None):
 
 
 def stack_at_end(words, given):
-    """How many bytes of stack a process has as it ends: it is traced, and stopped there."""
+    """How many bytes of stack a process has as it ends, besides its words: it is traced, and stopped there."""
     read, write = os.pipe()
     pid = os.fork()
     if pid == 0:
@@ -236,7 +236,7 @@ def stack_at_end(words, given):
             _, status = os.waitpid(pid, 0)
             if os.WIFSIGNALED(status):
                 fail(f"{words}: ended by signal {os.WTERMSIG(status)}"[:2000])
-            return int(found[1]) << 10
+            return (int(found[1]) << 10) - sum(len(word) for word in words)
         if not os.WIFSTOPPED(status):
             fail(f"{words}: the end of the process wasn't seen, but {status}")
         C.ptrace(PTRACE_CONT, pid, None, os.WSTOPSIG(status))
@@ -279,7 +279,7 @@ def rows_of_page(column):
     """The rows of the table of DECISIONS, by their kinds, as this column has them: numbers, or none yet."""
     text = (ROOT / "docs/development/DECISIONS.md").read_text(encoding="utf-8")
     table = text.partition("### The stack of a request")[2].partition("\n### ")[0]
-    rows = [[cell.strip() for cell in row.strip("|").split("|")] for row in table.splitlines() if row.startswith("|")]
+    rows = [[cell.strip() for cell in row.strip("|").split("|")] for row in map(str.strip, table.splitlines()) if row.startswith("|")]
     return {cells[0]: list(map(int, re.findall(r"\d+", cells[column]))) for cells in rows[2:]}
 
 
@@ -308,12 +308,12 @@ def try_little():
     """Random runs with little memory and stack."""
     chance, known, done = random.Random(SEED), {}, {"as with all": 0, "refused": 0, "not loaded": 0}
     for number in range(RUNS):
-        kind = chance.choice(list(KINDS))
+        kind, make = chance.choice(list(KINDS.items()))
         levels = chance.randint(1, 100)
-        words, given, _ = KINDS[kind](levels)
+        words, given, _ = make(levels)
         memory = chance.randint(LEAST, 64 << 20)
         stack = int((64 << 10) * 128 ** chance.random())
-        if (kind, levels) not in known:
+        if (kind, levels) not in known or make is update:
             # (a change is another one the first time)
             run(words, given)
             known[kind, levels] = run(words, given)

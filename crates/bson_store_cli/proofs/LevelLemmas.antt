@@ -1,5 +1,5 @@
 -- One more byte of a text, and one more text, of those that are left.
-use Rattle.std.proofs.Common.{◌≡◌, ◌<◌, ◌≤◌, ◌∙◌, ◌+◌, ◌∷◌, ℕ, suc, List, [], String, Global, length, drop, get_or, map, max, ap, sym, arith, rules, string_bytes, drop_of_length-le}
+use Rattle.std.proofs.Common.{◌≡◌, ◌<◌, ◌≤◌, ◌∙◌, ◌+◌, ◌∷◌, ℕ, suc, List, String, Global, length, drop, get_or, map, max, ap, sym, arith, rules, string_bytes, drop_of_length-le}
 use Rattle.std.proofs.Math.Seq.{drop-cons}
 use Rattle.bson_store_cli.specs.Levels.{deepest, deepest_from, depth_behind, levels_in, part_behind}
 use Rattle.bson_store_cli.specs.declared.levels.Part.{Part}

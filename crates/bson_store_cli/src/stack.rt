@@ -21,7 +21,7 @@ const BASE: usize = 768 << 10;
 const LEVEL: usize = 12 << 10;
 
 /// How many bytes of stack documents of 1000 levels take at the most, which are the deepest that are read of BSON.
-const DEEP: usize = 3 << 20;
+const DEEP: usize = 5 << 20;
 
 /// How many bytes of the stack are taken by one call.
 const PART: usize = 1 << 16;
