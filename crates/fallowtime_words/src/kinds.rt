@@ -429,7 +429,7 @@ const PLACES: &str =
 const MEMORY: &str =
     "  `Memory`: the system gave no more memory. `import` and `load` hold all that they read: give them less at a time. The
   levels of a request take stack, of which the program makes sure before it begins; `ulimit -v` counts it, and of
-  `ulimit -s` 5 MB are enough for every request. In a program of your own `Memory` is also returned for JSON trees and
+  `ulimit -s` 7 MB are enough for every request. In a program of your own `Memory` is also returned for JSON trees and
   bytes of more than 1000 levels.
 ";
 
