@@ -98,7 +98,7 @@ def pipeline(levels):
 
 def update(levels):
     value = around('{"a":', "1", "}", min(max(levels - 2, 0), 95))
-    return ["fallowtime", "shop.db", "update", "c", '{"_id":1}', f'{{"$set":{{"b":{value}}}}}'], b"", levels
+    return ["fallowtime", "shop.db", "update", "changed", '{"_id":1}', f'{{"$set":{{"b":{value}}}}}'], b"", levels
 
 
 def put(levels):
@@ -273,6 +273,8 @@ def make_store():
         document = '{"_id":%d,"s":"aaa","a":%s}' % (number, around("[", "1", "]", number) if number % 2 else around('{"a":', "1", "}", number))
         if run(["fallowtime", "shop.db", "put", "c", document], b"") != (0, b"", b""):
             fail(f"document {number} isn't put in")
+    if run(["fallowtime", "shop.db", "put", "changed", '{"_id":1}'], b"") != (0, b"", b""):
+        fail("the document for updates isn't put in")
 
 
 def rows_of_page(column):
