@@ -329,7 +329,10 @@ def try_little():
 
 
 make_store()
-if TABLE:
+if not TABLE and PROGRAM.parent.name != "quick" and not any(rows_of_page(2).values()):
+    # (nothing is known of this build: --table measures it)
+    print("DECISIONS has no numbers of the proved program yet")
+elif TABLE:
     for kind, row in measured():
         print(f"| {kind} | {', '.join(map(str, row))} |")
 else:
