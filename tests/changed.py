@@ -257,9 +257,9 @@ def main():
         room = pathlib.Path(room)
         old = make_tower(room / "old", LOW)
         status, said = build_low(old)
-        checked, told = checked_of(old, room / "kept") if not status else (None, said)
+        checked, first = checked_of(old, room / "kept") if not status else (None, said)
         if checked is None:
-            sys.exit(f"changed.py: the tower isn't proved\n{told[-3000:]}")
+            sys.exit(f"changed.py: the tower isn't proved\n{first[-3000:]}")
         print(f"changed.py: {checked} modules of the upper crate are checked at first", flush=True)
         results = []
         for change in CHANGES:

@@ -47,7 +47,7 @@ ROOM = {"libraries": 4 << 30, "sources": 6 << 30}
 PAUSE = 2
 # How many lines are printed of what is said of a crate that isn't proved, and which lines aren't.
 LAST = 60
-UNTOLD = re.compile(r"^(statements|logic) |: proved$")
+LEFT_OUT = re.compile(r"^(statements|logic) |: proved$")
 PRINTING = threading.Lock()
 
 
@@ -253,7 +253,7 @@ class Proofs:
         how = f"over {len(way.sources)} crates as sources" if way.sources else "over libraries"
         say(f"{name}: {'NOT PROVED: ' + fault if fault else 'proved'} {how}, {functions} functions, {time.time() - began:.0f} s")
         if fault:
-            say("\n".join([line for line in text.split("\n") if line and not UNTOLD.search(line)][-LAST:]))
+            say("\n".join([line for line in text.split("\n") if line and not LEFT_OUT.search(line)][-LAST:]))
         elif way.key(self.rt, self.crates[name], self.room) == key:
             proved.note_verdict(key)
         return not fault
