@@ -297,8 +297,9 @@ def compare_with_page():
 
 
 def is_well(found, wanted):
-    """Whether a run with little memory did as it does with all, or was refused by name; so may be a line of a session, or a message."""
-    if found == wanted or (found[0] == 1 and found[2].startswith(b"refused: Memory")) or (found[0] == 127 and b"loading shared" in found[2]):
+    """Whether a run with little memory did as it does with all, or was refused by name; so may be a line of a session, or a message.
+    With 127 the system says that it can't load the program."""
+    if found == wanted or (found[0] == 1 and found[2].startswith(b"refused: Memory")) or found[0] == 127:
         return True
     lines, whole = found[1].splitlines(keepends=True), wanted[1].splitlines(keepends=True)
     if found[0] == wanted[0] and len(lines) == len(whole) and all(one in (other, NO_MEMORY) for one, other in zip(lines, whole)):
