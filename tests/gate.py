@@ -24,7 +24,7 @@ PARTS = {
 }
 STUB = """#!/bin/sh
 echo "${{0##*/}}" "$@" >>"$CALLED"
-case "${{0##*/}} $*" in *"$FAILS"*) exit 1 ;; esac
+case "${{0##*/}} $*" in *"$FAILS"*) exit 1 ;; *"$KILLS"*) kill -9 "$PPID" ;; esac
 {does}
 exit 0
 """
@@ -53,12 +53,12 @@ def holds(step, found, wanted):
     print(f"{step}: {found!r}"[:150])
 
 
-def run(folder, there, *words, base="", wrong="", fails="no part"):
+def run(folder, there, *words, base="", wrong="", fails="no part", kills="no part"):
     """The status, the last line, the parts that failed and the calls of a gate."""
     called = folder / "called"
     called.write_text("")
     shutil.rmtree(there / "crates", ignore_errors=True)
-    environment = {**os.environ, "PATH": f"{folder / 'bin'}:{os.environ['PATH']}", "CALLED": str(called), "FAILS": fails, "BASE": base, "WRONG": wrong}
+    environment = {**os.environ, "PATH": f"{folder / 'bin'}:{os.environ['PATH']}", "CALLED": str(called), "FAILS": fails, "KILLS": kills, "BASE": base, "WRONG": wrong}
     done = subprocess.run([there / ".ci/run", *words], stdin=subprocess.DEVNULL, capture_output=True, text=True, env=environment)
     lines = done.stdout.splitlines()
     calls = [line.replace(str(there), "").replace("tests/", "") for line in called.read_text().splitlines()]
@@ -81,6 +81,8 @@ def try_changed(folder, there):
     for fails, name in [("prove_changed", "proofs of what changed"), ("wrong_bodies", "wrong bodies"), ("dev test", "./dev test"), ("quick --cases", "./quick --cases")]:
         status, last, failed, calls = run(folder, there, base="/state", wrong="low\n", fails=fails)
         holds(f"{fails} fails", (status, failed, has_called(calls, "proved.py --add")), (1, [f"FAILED {name}"], ["proved.py --add"]))
+    status, last, failed, calls = run(folder, there, base="/state", kills="dev test")
+    holds("a part is killed", (status, failed, has_called(calls, "proved.py --add")), (1, ["FAILED ./dev test"], ["proved.py --add"]))
 
 
 def try_whole(folder, there):

@@ -48,6 +48,8 @@ PAUSE = 2
 # How many lines are printed of what is said of a crate that isn't proved, and which lines aren't.
 LAST = 60
 LEFT_OUT = re.compile(r"^(statements|logic) |: proved$")
+# What of a root file has functions that no name of `parts_of` asks for.
+ROOT_IMPL = re.compile(r"(?m)^(?:unsafe )?impl\b|^#\[derive")
 PRINTING = threading.Lock()
 
 
@@ -161,11 +163,14 @@ class Sources:
                 (self.room / "whole" / "stand_ins" / name).rename(self.room / "sources" / name)
 
 
+def root_of(name):
+    folder = ROOT / "crates" / name / "src"
+    return next(file for file in (folder / "lib.rt", folder / "main.rt") if file.exists()).read_text(encoding="utf-8")
+
+
 def parts_of(name):
     """What of a crate is asked for over sources: its modules, and the functions of its root."""
-    folder = ROOT / "crates" / name / "src"
-    text = next(file for file in (folder / "lib.rt", folder / "main.rt") if file.exists()).read_text(encoding="utf-8")
-    return re.findall(r"(?m)^(?:pub(?:\(\w+\))? )?(?:mod|fn) (\w+)", text)
+    return re.findall(r"(?m)^(?:pub(?:\(\w+\))? )?(?:mod|(?:const |unsafe )*fn) (\w+)", root_of(name))
 
 
 class Proofs:
@@ -289,6 +294,8 @@ class Proofs:
 
     def fault_over_sources(self, crate, words):
         """The same over sources: each function of the crate is asked for, and has to be reported as proved."""
+        if ROOT_IMPL.search(root_of(crate.name)):
+            return "its root has an impl or a derive, which can't be asked for over sources: `.ci/run --whole`"
         asked = parts_of(crate.name)
         while True:
             done = subprocess.run([str(KIT / "bin" / "rattle"), *words, *[word for each in asked for word in ("--only", each)]], cwd=crate.folder,
